@@ -6,6 +6,10 @@ use Rattle.dp_lean_epoch.specs.LeanBatch.{IsVersion, LeanItem, IsLeanBatch}
 use Rattle.dp_lean_epoch.specs.Steps.{feeds_itself}
 use Rattle.dp_lean_machine.specs.LeanEpoch.{LeanEpoch, IsLeanEpoch, marks_in, kept_in, begin_in}
 use Rattle.dp_lean_machine.specs.Sent.{AsStatus, IsSent, SameTold, Unless, item_of}
+use Rattle.dp_lean_machine.specs.Kept.{KeepsBase}
+use Rattle.dp_lean_machine.specs.Standing.{Keeps}
+use Rattle.dp_lean_machine.specs.declared.machine.Kept.{Kept}
+use Rattle.dp_lean_machine.specs.declared.machine.Kept.TheVariants.{Cells, Versioned, Nothing}
 use Rattle.dp_lean_machine.specs.RanFrom.{RanFrom}
 use Rattle.dp_lean_machine.specs.declared.batch.LeanBatch.{LeanBatch}
 use Rattle.dp_lean_machine.specs.Line.{IsLineOf}
@@ -54,3 +58,11 @@ replicated_within plan s q = by (cases_lt s (length plan.stages))
     by : (s < length plan.stages) ⊎ (length plan.stages ≤ s) → suc s ≤ length plan.stages
     by (inl low) = low
     by (inr past) = absurd (cc (sym (ap is_par (slice_get_past plan.stages s past)) ∙ q))
+
+-- what a stage keeps of the base, it keeps where the epoch begins
+pub base_keeps : (e : LeanEpoch) (plan : Plan) (s : ℕ) (base : List ℤ) (kept : Kept) → e.key.plan ≡ plan → KeepsBase plan s base kept → LeanStands (marks_in e) e.key s 0 base → Keeps e s 0 kept
+base_keeps e plan s base (Cells cells) same k stands =
+    (ap (λ (p : Plan). is_replicated p s) same ∙ k.0, ap (λ (p : Plan). is_replicated p (suc s)) same ∙ k.1, subst (LeanStands (marks_in e) e.key s 0) (sym k.2) stands)
+base_keeps e plan s base (Versioned both) same k stands =
+    (ap (λ (p : Plan). is_replicated p s) same ∙ k.0, ap (λ (p : Plan). is_replicated p (suc s)) same ∙ k.1, subst (LeanStands (marks_in e) e.key s 0) (sym k.2) stands)
+base_keeps e plan s base Nothing same k stands = ap (λ (p : Plan). is_replicated p s) same ∙ k

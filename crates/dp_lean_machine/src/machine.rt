@@ -1,5 +1,5 @@
 //! A stage's machine, from one batch to the next.
-ghost use Rattle.std.specs.Prelude.{◌≡◌, ◌<◌, suc, length, IfOk};
+ghost use Rattle.std.specs.Prelude.{◌≡◌, ◌<◌, ◌≤◌, suc, length, IfOk};
 ghost use Rattle.dp_plan.specs.Access.{is_replicated};
 ghost use Rattle.dp_lean_machine.specs.Kept.{KeepsBase};
 ghost use Rattle.dp_lean_machine.specs.Sent.{SameTold};
@@ -47,31 +47,38 @@ impl Drop for LeanMachine {
     }
 }
 
-/// The kind of the stage at this place.
-fn is_par(plan: &Plan, place: usize) -> bool
-    ensures { result ≡ is_replicated plan.now (suc place) }
+/// Whether a stage is replicated; stages count from 1.
+fn is_par(plan: &Plan, stage: usize) -> bool
+    ensures { result ≡ is_replicated plan.now stage }
 {
-    match plan.stages.get(place) {
+    if stage == 0 {
+        return false;
+    }
+    match plan.stages.get(stage - 1) {
         Some(StageKind::Par) => true,
         Some(StageKind::Seq) | None => false,
     }
 }
 
-/// What the stage at this place keeps where an epoch begins.
-fn kept_at_base(
-    alloc: Global,
-    plan: &Plan,
-    place: usize,
-    base: &Cells,
-) -> Result<Kept, NoMemory>
-    requires { place < length plan.now.stages }
-    ensures { IfOk result (λ k. KeepsBase plan.now (suc place) base.now k) }
+/// Whether the stage behind is replicated.
+fn next_is_par(plan: &Plan, stage: usize) -> bool
+    ensures { result ≡ is_replicated plan.now (suc stage) }
 {
-    if is_par(plan, place) {
+    match plan.stages.get(stage) {
+        Some(StageKind::Par) => true,
+        Some(StageKind::Seq) | None => false,
+    }
+}
+
+/// What a stage keeps where an epoch begins.
+fn kept_at_base(alloc: Global, plan: &Plan, stage: usize, base: &Cells) -> Result<Kept, NoMemory>
+    ensures { IfOk result (λ k. KeepsBase plan.now stage base.now k) }
+{
+    if is_par(plan, stage) {
         return Ok(Kept::Nothing);
     }
     let cells = base.copy()?;
-    if is_par(plan, place + 1) {
+    if next_is_par(plan, stage) {
         let both = Versioned::of(alloc, cells)?;
         return Ok(Kept::Versioned(both));
     }
@@ -113,22 +120,23 @@ impl LeanMachine {
     ghost use Rattle.dp_lean_machine.specs.Sent.{AsStatus, IsSent};
     ghost use Rattle.dp_lean_machine.specs.Standing.{StandsAt, Stands, Passes};
 
-    /// The machine of the stage at this place where an epoch begins.
+    /// The machine of a stage where an epoch begins.
     pub fn new(
         alloc: Global,
         plan: &Plan,
-        place: usize,
+        stage: usize,
         base: &Cells,
     ) -> Result<LeanMachine, NoMemory>
-        requires { place < length plan.now.stages }
-        ensures begins { IfOk result (λ m. (e : LeanEpoch) → IsLeanEpoch e → e.key.plan ≡ plan.now → LeanStands (marks_in e) e.key (suc place) 0 base.now → Stands m e 0) }
-        ensures stage { IfOk result (λ m. m.stage ≡ suc place) }
+        requires { 0 < stage }
+        ensures begins { IfOk result (λ m. (e : LeanEpoch) → IsLeanEpoch e → e.key.plan ≡ plan.now → stage ≤ length plan.now.stages →
+            LeanStands (marks_in e) e.key stage 0 base.now → Stands m e 0) }
+        ensures stage { IfOk result (λ m. m.stage ≡ stage) }
     {
-        let kept = kept_at_base(alloc, plan, place, base)?;
+        let kept = kept_at_base(alloc, plan, stage, base)?;
         let desk = Desk::new(alloc)?;
         Ok(LeanMachine {
             alloc,
-            stage: place + 1,
+            stage,
             kept,
             desk: Some(desk),
         })
