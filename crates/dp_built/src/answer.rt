@@ -76,17 +76,23 @@ where
         &mut tally,
     );
     shown.wipe();
-    let mut told = OutSink::new(errors);
-    // what fails there changes no answer
-    let _ = tell(
-        rt.alloc(),
-        words,
-        files_again,
-        status,
-        output.tail(),
-        &mut told,
-    );
+    tell_more(rt, errors, words, files_again, status, output.tail());
     status
+}
+
+/// Tells people what the answer leaves out. What fails there changes no answer.
+fn tell_more<R: AllocGlobal, E: Print, S: Shelf>(
+    rt: &R,
+    errors: &E,
+    words: &[String],
+    files: &mut S,
+    status: u8,
+    tail: &[u8],
+)
+    requires { S.faults files.old < 2 ^ 64 - 1 }
+{
+    let mut told = OutSink::new(errors);
+    let _ = tell(rt.alloc(), words, files, status, tail, &mut told);
 }
 
 /// Whether somebody watches a terminal, and hasn't asked for plain text.
