@@ -102,8 +102,6 @@ pub struct Walk<'p> {
     /// How many of each stage's words are taken; of the pace's stage, how many were when it was left last.
     pub taken: Row<usize>,
     pub stores: Row<StoreOf>,
-    /// The stage of each store's site, where stages are told.
-    pub stages: Option<Row<u32>>,
     pub prints: Row<i64>,
 }
 

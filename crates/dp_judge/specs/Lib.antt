@@ -1,4 +1,3 @@
-pub mod Stages
 pub mod Locals
 pub mod Told
 pub mod Entries

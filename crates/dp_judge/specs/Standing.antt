@@ -4,7 +4,7 @@ use Rattle.dp_semantics.specs.Packets.{Packet, passed}
 use Rattle.dp_semantics.specs.EpochKey.{EpochKey, epoch_of}
 use Rattle.dp_semantics.specs.EpochVerdicts.{state_at, verdict_at}
 use Rattle.dp_judge.specs.Locals.{local_cells}
-use Rattle.dp_judge.specs.Told.{Says, TellsStages}
+use Rattle.dp_judge.specs.Told.{Says}
 use Rattle.dp_judge.specs.declared.trying.TryCommit.{TryCommit}
 use Rattle.dp_judge.specs.declared.verdict.Verdict.{Verdict}
 use Rattle.dp_judge.specs.declared.verdict.Verdict.TheVariants.{Clean, Unclean, NoMemory}
@@ -40,11 +40,10 @@ JudgesNext t key n NoMemory = Unit {0}
 
 -- The verdict is that on the epoch's n-th iteration, or memory was wanting.
 abbrev pub Gives : TryCommit → EpochKey → ℕ → Verdict → Type 0
-Gives t key n verdict = Says verdict (verdict_at key n) × TellsStages t.tells_stages key n verdict × JudgesNext t key n verdict
+Gives t key n verdict = Says key verdict (verdict_at key n) × JudgesNext t key n verdict
 
--- the same program and plan, and the same is told
+-- the same program, plan and locals
 pub record IsSame (t u : TryCommit) : Type 0 where
   pub program : t.court.program.now ≡ u.court.program.now
   pub plan : t.court.plan.now ≡ u.court.plan.now
   pub locals : t.locals ≡ u.locals
-  pub tells : t.tells_stages ≡ u.tells_stages

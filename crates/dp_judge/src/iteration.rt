@@ -1,7 +1,7 @@
 //! The judging of one iteration's words, from where it begins.
 ghost use Rattle.std.specs.Prelude.{◌≡◌, IfOk, replicate, []};
 ghost use Rattle.dp_semantics.specs.Judge.{judge_lists};
-ghost use Rattle.dp_finding.specs.FlatJudge.{stages_if, walk_begin};
+ghost use Rattle.dp_finding.specs.FlatJudge.{walk_begin};
 ghost use Rattle.dp_finding.specs.Held.{IsAt, state_of};
 ghost use Rattle.dp_finding.specs.declared.court.Answer.TheVariants as answer;
 ghost use Rattle.dp_judge.specs.Judging.{IsCourt, Judged, WantsIn};
@@ -36,26 +36,14 @@ fn none_taken(row: Row<usize>, lists: usize) -> Result<Row<usize>, NoMemory>
     Ok(taken)
 }
 
-/// No stage of a store yet, with room for so many, where stages are told.
-fn no_stages(alloc: Global, tells_stages: bool, room: usize) -> Result<Option<Row<u32>>, NoMemory>
-    ensures { IfOk result (λ stages. stages ≡ stages_if tells_stages []) }
-{
-    if tells_stages {
-        let stages = Row::with_capacity(alloc, room)?;
-        return Ok(Some(stages));
-    }
-    Ok(None)
-}
-
 /// The start of the judging of an iteration.
 fn begin<'p>(
     alloc: Global,
     rows: &mut Rows,
-    tells_stages: bool,
     cells: Cells,
     lists: &'p Lists,
 ) -> Result<Walk<'p>, NoMemory>
-    ensures state { IfOk result (λ walk. state_of walk ≡ walk_begin tells_stages cells lists.now) }
+    ensures state { IfOk result (λ walk. state_of walk ≡ walk_begin cells lists.now) }
     ensures at { IfOk result (λ walk. IsAt walk.pace walk) }
 {
     Ok(Walk {
@@ -71,7 +59,6 @@ fn begin<'p>(
         lists,
         taken: none_taken(emptied(alloc, &mut rows.taken), lists.len())?,
         stores: Row::with_capacity(alloc, rows.stores)?,
-        stages: no_stages(alloc, tells_stages, rows.stores)?,
         prints: Row::with_capacity(alloc, rows.prints)?,
     })
 }
@@ -80,16 +67,15 @@ fn begin<'p>(
 pub fn judged<'c, 'p>(
     alloc: Global,
     rows: &mut Rows,
-    tells_stages: bool,
     court: Court<'c>,
     cells: Cells,
     lists: &'p Lists,
 ) -> Result<(Walk<'p>, Answer), NoMemory>
     requires court { IsCourt court }
-    ensures told { IfOk result (λ r. Judged tells_stages court.entry.program.now court.entry.plan.now cells (judge_lists court.entry.program.now court.entry.plan.now court.entry.limit cells lists.now) (state_of r.0) r.1) }
-    ensures wants { IfOk result (λ r. r.1 ≡ answer.NoMemory → WantsIn court.entry (walk_begin tells_stages cells lists.now)) }
+    ensures told { IfOk result (λ r. Judged cells (judge_lists court.entry.program.now court.entry.plan.now court.entry.limit cells lists.now) (state_of r.0) r.1) }
+    ensures wants { IfOk result (λ r. r.1 ≡ answer.NoMemory → WantsIn court.entry (walk_begin cells lists.now)) }
 {
-    let mut walk = begin(alloc, rows, tells_stages, cells, lists)?;
+    let mut walk = begin(alloc, rows, cells, lists)?;
     let answer = run(&mut walk, court);
     Ok((walk, answer))
 }

@@ -1,15 +1,14 @@
 //! A site's word, judged where it stands.
-ghost use Rattle.std.specs.Prelude.{◌≡◌, ◌≢◌, ◌-◌, ◌<◌, ◌==◌, ◌||◌, ℤ, OnOk, ◌++◌, ◌∷◌, [], Some};
+ghost use Rattle.std.specs.Prelude.{◌≡◌, ◌≢◌, ◌-◌, ◌<◌, ◌==◌, ◌||◌, ℤ, Some};
 ghost use Rattle.dp_plan.specs.Access.{first_site, stage_of};
 ghost use Rattle.dp_code.specs.FlatRun as run;
 ghost use Rattle.dp_finding.specs.declared.court.Answer.TheVariants as answer;
-ghost use Rattle.dp_finding.specs.FlatJudge.{one_stage_more};
 ghost use Rattle.dp_finding.specs.Held.{IsAt, state_at};
 ghost use Rattle.dp_judge.specs.Judging.{Does, Lets};
 ghost use Rattle.dp_finding.specs.Finding.{Finds, walking_in};
 
 use crate::assuming::{closes, zero};
-use dp_base::{CellId, NoMemory, Row, SiteId, StoreOf, Word};
+use dp_base::{CellId, SiteId, StoreOf, Word};
 use dp_finding::{Answer, Court, Pace, Walk, word_at};
 
 /// The store that a word tells.
@@ -20,24 +19,6 @@ fn store_of(word: Word) -> StoreOf
     StoreOf {
         cell: CellId(word.index),
         value: word.value,
-    }
-}
-
-/// Appends a store, and the stage of its site where stages are told.
-#[inline(always)]
-fn note_store(
-    stores: &mut Row<StoreOf>,
-    stages: &mut Option<Row<u32>>,
-    store: StoreOf,
-    stage: u32,
-) -> Result<(), NoMemory>
-    ensures stores { OnOk result (stores.new ≡ stores.old ++ store ∷ []) }
-    ensures stages { OnOk result (stages.new ≡ one_stage_more stages.old stage) }
-{
-    stores.push(store)?;
-    match stages {
-        Some(stages) => stages.push(stage),
-        None => Ok(()),
     }
 }
 
@@ -67,8 +48,7 @@ pub(crate) fn store_at<'c, 'p>(
     if word.index < first.0 || word.index - first.0 >= count {
         return Answer::Refuses;
     }
-    let store = store_of(word);
-    match note_store(&mut walk.stores, &mut walk.stages, store, pace.stage) {
+    match walk.stores.push(store_of(word)) {
         Ok(()) => {
             walk.cells.set(CellId(word.index), word.value);
             pace.pass(at, closes(court, opens, site, word.value), next);

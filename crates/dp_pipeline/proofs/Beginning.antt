@@ -115,16 +115,16 @@ pub sends_first : (lane : LaneKey) (to : End LaneKey) (capacity : ℕ) → to �
 sends_first lane to capacity new = record { lane = lane; ended = false; view_is = ap (λ (e : End LaneKey). e.view) new; epoch = refl; stage = refl }
 
 module _ (lane : LaneKey) (source : Source) (to : End LaneKey) (capacity : ℕ) where
-  pub judging_begins : (t : TryCommit) → Judges t (key_of lane.epoch).epoch 0 → t.tells_stages ≡ lane.epoch.tells_stages → lane.stage - 1 ≡ length lane.epoch.plan.now.stages
+  pub judging_begins : (t : TryCommit) → Judges t (key_of lane.epoch).epoch 0 → lane.stage - 1 ≡ length lane.epoch.plan.now.stages
       → Gives source (key_of lane.epoch) (lane.stage - 1) 0 → (source_facts source).count ≡ 0 → to ≡ new_end (Sender lane 0 false) capacity → lane.epoch.fuel ≤ 1000000000
       → HasSentAll MayJudge HasJudged (λ (ends : Judging). source_facts ends.source) (λ (ends : Judging). sent_facts ends.verdicts) (λ (ends : Judging). ended_by ends.verdicts.view)
       JudgesAt (λ (key : UnitsKey) (s k : ℕ) (x : Judged). IsJudged key k x) is_last_judged (record { court = t }) (record { source = source; verdicts = to }) false
-  judging_begins t judges tells before gives count new fuel = record {
+  judging_begins t judges before gives count new fuel = record {
     key = key_of lane.epoch;
     number = lane.stage;
     place = Some 0;
     free = record { at = 0; place_is = refl; from = gives; to = sends_first lane to capacity new };
-    stands_on = λ _. record { before = before; tells = tells; stands = judges; few = omega (arith, fuel) };
+    stands_on = λ _. record { before = before; stands = judges; few = omega (arith, fuel) };
     mark = ap (λ (e : End LaneKey). ended_by e.view) new;
     counts = count ∙ sym (ap (λ (e : End LaneKey). sent_by e.view) new);
   }

@@ -11,7 +11,7 @@ use Rattle.dp_judge.specs.declared.trying.TryCommit.{TryCommit}
 use Rattle.dp_judge.specs.declared.verdict.Verdict.{Verdict}
 use Rattle.dp_judge.specs.declared.verdict.Verdict.TheVariants as verdict
 use Rattle.dp_judge.specs.Standing.{Judges, JudgesNext}
-use Rattle.dp_judge.specs.Told.{TellsStages, goes_on_behind}
+use Rattle.dp_judge.specs.Told.{goes_on_behind}
 use Rattle.dp_pipeline.specs.declared.batch.Batch.{Batch}
 use Rattle.dp_pipeline.specs.declared.judge.Judge.{Judge}
 use Rattle.dp_pipeline.specs.declared.judged.Judged.{Judged}
@@ -35,19 +35,18 @@ judges_next verdict.Unclean t key n w e = absurd (cc e)
 judges_next verdict.NoMemory t key n w e = absurd (cc e)
 
 -- what is decided of one packet is told
-decides_one : (t new : TryCommit) (p : Packet) (v : Verdict) (key : UnitsKey) (n : ℕ) → Decides t new p v → t.tells_stages ≡ key.tells_stages → Judges t key.epoch n
+decides_one : (t new : TryCommit) (p : Packet) (v : Verdict) (key : UnitsKey) (n : ℕ) → Decides t new p v → Judges t key.epoch n
     → IsPacket key (length key.epoch.plan.stages) n p → IsTold key n v × (goes_on_behind v ≡ true → Judges new key.epoch (n + 1))
-decides_one t new p v key n one tells judges came =
+decides_one t new p v key n one judges came =
     let gives = one.gives key.epoch n judges came.sent.packet in (
-      record { verdict = gives.0; stages = subst (λ (b : Bool). TellsStages b key.epoch n v) (one.tells ∙ tells) gives.1 },
-      λ e. judges_next v new key.epoch n gives.2 e,
+      gives.0,
+      λ e. judges_next v new key.epoch n gives.1 e,
     )
 
 pub told_none : (t : TryCommit) (came : List Packet) (told : List Verdict) → told ≡ [] → DecidesSome t t came told 0
 told_none t came told none = record {
-  tells = refl;
   size = ap length none;
-  gives = λ key n tells judges all. let here : n ≡ n + 0 = omega arith in (
+  gives = λ key n judges all. let here : n ≡ n + 0 = omega arith in (
     subst (λ (vs : List Verdict). EachFrom (IsTold key) n vs) (sym none) tt,
     subst (λ (k : ℕ). Judges t key.epoch k) here judges,
   );
@@ -55,20 +54,19 @@ told_none t came told none = record {
 
 module _ (old t new : TryCommit) (came : List Packet) (told : List Verdict) (i : ℕ) (some : DecidesSome old t came told i) (p : Packet) (v : Verdict)
     (at : slice_get came i ≡ Some p) (one : Decides t new p v) where
-  decided : (key : UnitsKey) (n : ℕ) → old.tells_stages ≡ key.tells_stages → Judges old key.epoch n → EachFrom (IsOnward key (length key.epoch.plan.stages)) n came
+  decided : (key : UnitsKey) (n : ℕ) → Judges old key.epoch n → EachFrom (IsOnward key (length key.epoch.plan.stages)) n came
       → IsTold key (n + i) v × (goes_on_behind v ≡ true → Judges new key.epoch (n + i + 1))
-  decided key n tells judges all =
-      let so = some.gives key n tells judges all in
+  decided key n judges all =
+      let so = some.gives key n judges all in
       let onward = each_at (IsOnward key (length key.epoch.plan.stages)) n came i p all at in
-      decides_one t new p v key (n + i) one (some.tells ∙ tells) so.1 onward.is
+      decides_one t new p v key (n + i) one so.1 onward.is
 
   pub told_more : goes_on_behind v ≡ true → DecidesSome old new came (told ++ v ∷ []) (i + 1)
   told_more goes = record {
-    tells = one.tells ∙ some.tells;
     size = one_more told i some.size;
-    gives = λ key n tells judges all.
-        let so = some.gives key n tells judges all in
-        let more = decided key n tells judges all in
+    gives = λ key n judges all.
+        let so = some.gives key n judges all in
+        let more = decided key n judges all in
         let there : n + i ≡ n + length told = ap (λ (k : ℕ). n + k) (sym some.size) in
         let next : n + i + 1 ≡ n + (i + 1) = omega arith in (
           each_snoc (IsTold key) n told v so.0 (subst (λ (k : ℕ). IsTold key k v) there more.0),
@@ -85,34 +83,32 @@ module _ (old t new : TryCommit) (came : List Packet) (told : List Verdict) (i :
 
   -- .. or the epoch doesn't go on behind it, or memory was wanting to tell it
   stop_by : (w : Verdict) → i < length came → goes_on_behind w ≡ false
-      → ((key : UnitsKey) (n : ℕ) → old.tells_stages ≡ key.tells_stages → Judges old key.epoch n → EachFrom (IsOnward key (length key.epoch.plan.stages)) n came → IsTold key (n + i) w)
+      → ((key : UnitsKey) (n : ℕ) → Judges old key.epoch n → EachFrom (IsOnward key (length key.epoch.plan.stages)) n came → IsTold key (n + i) w)
       → DecidesFront old new came told (Some w)
   stop_by w low ends told_so = let many = some.size in record {
-    tells = one.tells ∙ some.tells;
     few = omega (arith, many, low);
-    gives = λ key n tells judges all. let so = some.gives key n tells judges all in so.0;
+    gives = λ key n judges all. let so = some.gives key n judges all in so.0;
     all = λ e. absurd (cc e);
     stops = λ u e. let same : w ≡ u = cc e in (
       ap goes_on_behind (sym same) ∙ ends,
-      λ key n tells judges all.
+      λ key n judges all.
           let there : n + i ≡ n + length told = ap (λ (k : ℕ). n + k) (sym many) in
-          subst (λ (q : Verdict). IsTold key (n + length told) q) same (subst (λ (k : ℕ). IsTold key k w) there (told_so key n tells judges all)),
+          subst (λ (q : Verdict). IsTold key (n + length told) q) same (subst (λ (k : ℕ). IsTold key k w) there (told_so key n judges all)),
     );
   }
 
   pub told_stops : i < length came → goes_on_behind v ≡ false → DecidesFront old new came told (Some v)
-  told_stops low ends = stop_by v low ends (λ key n tells judges all. let so = decided key n tells judges all in so.0)
+  told_stops low ends = stop_by v low ends (λ key n judges all. let so = decided key n judges all in so.0)
 
   pub told_wants : i < length came → DecidesFront old new came told (Some verdict.NoMemory)
-  told_wants low = stop_by verdict.NoMemory low refl (λ key n tells judges all. record { verdict = tt; stages = tt })
+  told_wants low = stop_by verdict.NoMemory low refl (λ key n judges all. tt)
 
 pub told_all : (old t : TryCommit) (came : List Packet) (told : List Verdict) (i : ℕ) → DecidesSome old t came told i → i ≡ length came → DecidesFront old t came told None
 told_all old t came told i some full =
     let many = some.size in record {
-      tells = some.tells;
       few = omega (arith, many, full);
-      gives = λ key n tells judges all. let so = some.gives key n tells judges all in so.0;
-      all = λ e. (many ∙ full, λ key n tells judges all. let so = some.gives key n tells judges all in subst (λ (k : ℕ). Judges t key.epoch (n + k)) (sym many) so.1);
+      gives = λ key n judges all. let so = some.gives key n judges all in so.0;
+      all = λ e. (many ∙ full, λ key n judges all. let so = some.gives key n judges all in subst (λ (k : ℕ). Judges t key.epoch (n + k)) (sym many) so.1);
       stops = λ v e. absurd (cc e);
     }
 
@@ -136,7 +132,7 @@ module _ (x new : Judge) (packets : Batch) (t : TryCommit) (told : List Verdict)
   onward = subst (λ (k : ℕ). EachFrom (IsOnward key k) (begins key b) packets.before) stands.before is.front
 
   told_so : EachFrom (IsTold key) (begins key b) told
-  told_so = front.gives key (begins key b) stands.tells judges onward
+  told_so = front.gives key (begins key b) judges onward
 
   few_enough : begins key b + length told < 2 ^ 62
   few_enough =
@@ -151,7 +147,7 @@ module _ (x new : Judge) (packets : Batch) (t : TryCommit) (told : List Verdict)
         record {
           front = subst (λ (vs : List Verdict). EachFrom (IsTold key) (begins key b) vs) (sym told_is) told_so;
           last = subst (λ (q : List Verdict × Verdict). IsTold key (begins key b + length q.0) q.1) (λ i. (sym told_is i, sym last_is i))
-              (stop.1 key (begins key b) stands.tells judges onward);
+              (stop.1 key (begins key b) judges onward);
           whole = λ goes.
               let both = both_go (goes_on_behind y.last) (is_going_on y.packets.last.status) goes in
               let clash : true ≡ false = sym both.0 ∙ ap goes_on_behind last_is ∙ stop.0 in absurd (cc clash);
@@ -170,7 +166,7 @@ module _ (x new : Judge) (packets : Batch) (t : TryCommit) (told : List Verdict)
       let there : begins key b + length packets.before ≡ begins key b + length told = ap (λ (k : ℕ). begins key b + k) (sym all.0) in
       let came = subst (λ (k : ℕ). IsPacket key (length key.epoch.plan.stages) k packets.last) there
       (subst (λ (k : ℕ). IsPacket key k (begins key b + length packets.before) packets.last) stands.before is.last) in
-      let decided = decides_one t new.court packets.last v key (begins key b + length told) one (front.tells ∙ stands.tells) (all.1 key (begins key b) stands.tells judges onward) came in (
+      let decided = decides_one t new.court packets.last v key (begins key b + length told) one (all.1 key (begins key b) judges onward) came in (
         record {
           front = subst (λ (vs : List Verdict). EachFrom (IsTold key) (begins key b) vs) (sym told_is) told_so;
           last = subst (λ (q : List Verdict × Verdict). IsTold key (begins key b + length q.0) q.1) (λ i. (sym told_is i, sym last_is i)) decided.0;
@@ -183,7 +179,6 @@ module _ (x new : Judge) (packets : Batch) (t : TryCommit) (told : List Verdict)
             let both = both_go (goes_on_behind v) (is_going_on packets.last.status) goes in
             record {
               before = stands.before;
-              tells = one.tells ∙ front.tells ∙ stands.tells;
               stands = judges_for place at (subst (λ (k : ℕ). Judges new.court key.epoch k) (behind_whole (length told) (ap suc all.0 ∙ is.whole both.1)) (decided.1 both.0)) stands.stands;
               few = stands.few;
             },

@@ -41,7 +41,7 @@ comes_of lane taken t u x at left given over =
     let all = subst (λ (vs : List Verdict). EachFrom (IsTold (key_of lane.epoch)) t.given vs) left at.left in
     let next : suc t.given ≡ u.given = omega (arith, given) in
     let many = ap length left in let few = at.few in (
-      record { verdict_is = all.0.verdict; stages_are = all.0.stages; key_is = refl; tells_is = refl; given_is = given },
+      record { verdict_is = all.0; key_is = refl; given_is = given },
       record {
         left = subst (λ (k : ℕ). EachFrom (IsTold (key_of lane.epoch)) k (left_of u)) next all.1;
         next = λ still. (let sum : u.given + length (left_of u) ≡ t.given + length (left_of t) = omega (arith, given, many) in sum ∙ at.next (sym over ∙ still));

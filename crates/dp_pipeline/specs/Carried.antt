@@ -8,7 +8,7 @@ use Rattle.dp_packet.specs.declared.PacketStatus.{PacketStatus}
 use Rattle.dp_packet.specs.declared.PacketStatus.TheVariants.{Going, Closing, Void, NoMemory}
 use Rattle.dp_packet.specs.Packet.{packet_of}
 use Rattle.dp_judge.specs.declared.verdict.Verdict.{Verdict}
-use Rattle.dp_judge.specs.Told.{Says, TellsStages, goes_on_behind}
+use Rattle.dp_judge.specs.Told.{Says, goes_on_behind}
 use Rattle.dp_pipeline.specs.declared.batch.Batch.{Batch}
 use Rattle.dp_pipeline.specs.declared.carried.Carried.{Carried}
 use Rattle.dp_pipeline.specs.declared.judged.Judged.{Judged}
@@ -48,10 +48,9 @@ IsCarried key s b x = IsBatch key s b x.packets
 abbrev pub is_last_carried : UnitsKey → Carried → Bool
 is_last_carried key x = is_last_packet key.epoch (sent_of x.packets.last)
 
--- It is the verdict on the epoch's k-th iteration, unless memory was wanting, with the stages that are to be told.
-pub record IsTold (key : UnitsKey) (k : ℕ) (v : Verdict) : Type 0 where
-  pub verdict : Says v (verdict_at key.epoch k)
-  pub stages : TellsStages key.tells_stages key.epoch k v
+-- it is the verdict on the epoch's k-th iteration, unless memory was wanting
+abbrev pub IsTold : UnitsKey → ℕ → Verdict → Type 0
+IsTold key k v = Says key.epoch v (verdict_at key.epoch k)
 
 -- no verdict follows this last one of a batch, behind whose last packet of this status the epoch doesn't go on, or it doesn't behind the verdict
 abbrev pub ends_told : Verdict → PacketStatus → Bool

@@ -30,6 +30,5 @@ JudgesFor t key None = ⊥
 -- It comes after the last stage of the epoch, and stands at this place.
 pub record JudgesAt (x : Judge) (key : UnitsKey) (s : ℕ) (place : Option ℕ) : Type 0 where
   pub before : s - 1 ≡ length key.epoch.plan.stages
-  pub tells : x.court.tells_stages ≡ key.tells_stages
   pub stands : JudgesFor x.court key place
   pub few : key.epoch.fuel < 2 ^ 62

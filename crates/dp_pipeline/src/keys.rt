@@ -20,12 +20,10 @@ pub struct Begin<'b> {
     /// The steps made by then.
     pub steps: u64,
     pub fuel: u64,
-    /// Whether a clean iteration tells the stages of its stores.
-    pub tells_stages: bool,
 }
 
-/// An epoch: its first iteration, the memory in which it begins, the steps made by then, and the fuel; whether a clean
-/// iteration tells the stages of its stores; and how many iterations go together.
+/// An epoch: its first iteration, the memory in which it begins, the steps made by then, and the fuel; and how many iterations
+/// go together.
 pub struct EpochKey<'p> {
     pub p: &'p Program,
     pub plan: &'p Plan,
@@ -34,7 +32,6 @@ pub struct EpochKey<'p> {
     pub base: Cells,
     pub steps: u64,
     pub fuel: u64,
-    pub tells_stages: bool,
     /// How many iterations go together at most.
     pub cap: u64,
 }
@@ -50,7 +47,6 @@ impl<'p> Drop for EpochKey<'p> {
             base: _,
             steps: _,
             fuel: _,
-            tells_stages: _,
             cap: _,
         } = self;
     }
@@ -76,7 +72,6 @@ impl<'u> EpochKey<'u> {
             base: begin.base.copy()?,
             steps: begin.steps,
             fuel: begin.fuel,
-            tells_stages: begin.tells_stages,
             cap: cap_of(region),
         })
     }
@@ -93,7 +88,6 @@ impl<'u> EpochKey<'u> {
             base,
             steps: _,
             fuel: _,
-            tells_stages: _,
             cap: _,
         } = self;
         base

@@ -35,7 +35,7 @@ impl<'u> Pipeline<'u> {
         requires fuel { begin.fuel ≤ 1000000000 }
         ensures units { IfOk result (λ made. length made.units ≡ unit_count size.workers region.now.plan) }
         ensures setter { setter.new ≡ setter.old }
-        ensures verdicts { IfOk result (λ made. made.verdicts ≡ record { key = key_at region.now input.now begin.entry; tells_stages = begin.entry.tells_stages; given = 0 }) }
+        ensures verdicts { IfOk result (λ made. made.verdicts ≡ record { key = key_at region.now input.now begin.entry; given = 0 }) }
     {
         let epoch = EpochKey::copied(region, input, begin)?;
         let key = LaneKey { epoch, stage: 1 };

@@ -24,14 +24,12 @@ use std::alloc::Global;
 /// The judging where the setting's epoch begins. It goes on with the memory of the setting.
 fn judge_of<'u, 'p>(alloc: Global, setting: Setting<'u, 'p>) -> Result<Judge<'u>, NoMemory>
     requires setting { IsSetting setting }
-    ensures judges { IfOk result (λ judge. Judges judge.court (key_of setting.entry.key.epoch).epoch 0) }
-    ensures tells { IfOk result (λ judge. judge.court.tells_stages ≡ setting.entry.key.epoch.tells_stages) }
+    ensures { IfOk result (λ judge. Judges judge.court (key_of setting.entry.key.epoch).epoch 0) }
 {
     let region = setting.region;
     let epoch = &setting.key.epoch;
     let given = region.court(epoch.fuel - epoch.steps);
-    let tells_stages = epoch.tells_stages;
-    let court = TryCommit::new(alloc, given, setting.into_base(), tells_stages)?;
+    let court = TryCommit::new(alloc, given, setting.into_base())?;
     Ok(Judge { court })
 }
 

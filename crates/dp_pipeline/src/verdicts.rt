@@ -57,7 +57,7 @@ impl<'u> Model for LaneVerdicts<'u> {
 impl<'u> LaneVerdicts<'u> {
     ghost use Rattle.std.specs.Prelude.{◌≡◌, ◌+◌, ◌<◌, ℕ, true, MatchOption};
     ghost use Rattle.dp_semantics.specs.EpochVerdicts.{goes_on, verdict_at};
-    ghost use Rattle.dp_judge.specs.Told.{Says, TellsStages};
+    ghost use Rattle.dp_judge.specs.Told.{Says};
     ghost use Rattle.dp_pipeline.specs.Coming.{Comes, coming_on};
     ghost use Rattle.dp_pipeline.specs.Standing.{taken_by};
 
@@ -117,10 +117,8 @@ impl<'u> LaneVerdicts<'u> {
     /// The verdict on the next iteration. There is none after one that isn't Clean or that closes the region.
     pub fn next<R: Wait + Clock>(&mut self, rt: &R) -> Verdict
         requires { (n : ℕ) → n < self.old.given → goes_on (verdict_at self.old.key n) ≡ true }
-        ensures verdict { Says result (verdict_at self.old.key self.old.given) }
-        ensures stages { TellsStages self.old.tells_stages self.old.key self.old.given result }
+        ensures verdict { Says self.old.key result (verdict_at self.old.key self.old.given) }
         ensures key { self.new.key ≡ self.old.key }
-        ensures tells { self.new.tells_stages ≡ self.old.tells_stages }
         ensures given { self.new.given ≡ self.old.given + 1 }
     {
         'turns: for _ in rt.forever() {

@@ -61,24 +61,21 @@ pub record MakesAt (old new : StageMachine) (came sent : Batch) (place : ℕ) (g
 
 -- The judging decides of the packet, wherever it stands.
 pub record Decides (old new : TryCommit) (packet : Packet) (v : Verdict) : Type 0 where
-  pub tells : new.tells_stages ≡ old.tells_stages
   pub gives : (key : EpochKey) (n : ℕ) → Judges old key n → OrWanting (packets.passed (epoch_of key) (length key.plan.stages) n).packet (sent_packet packet.status packet) →
       Gives new key n v
 
 -- It decided of so many packets that the epoch goes on behind them.
 pub record DecidesSome (old new : TryCommit) (came : List Packet) (told : List Verdict) (count : ℕ) : Type 0 where
-  pub tells : new.tells_stages ≡ old.tells_stages
   pub size : length told ≡ count
-  pub gives : (key : UnitsKey) (n : ℕ) → old.tells_stages ≡ key.tells_stages → Judges old key.epoch n → EachFrom (IsOnward key (length key.epoch.plan.stages)) n came →
+  pub gives : (key : UnitsKey) (n : ℕ) → Judges old key.epoch n → EachFrom (IsOnward key (length key.epoch.plan.stages)) n came →
       EachFrom (IsTold key) n told × Judges new key.epoch (n + count)
 
 -- .. and of all of them, or it says what is told of the one behind them, behind which the epoch doesn't go on.
 pub record DecidesFront (old new : TryCommit) (came : List Packet) (told : List Verdict) (end : Option Verdict) : Type 0 where
-  pub tells : new.tells_stages ≡ old.tells_stages
   pub few : length told ≤ length came
-  pub gives : (key : UnitsKey) (n : ℕ) → old.tells_stages ≡ key.tells_stages → Judges old key.epoch n → EachFrom (IsOnward key (length key.epoch.plan.stages)) n came →
+  pub gives : (key : UnitsKey) (n : ℕ) → Judges old key.epoch n → EachFrom (IsOnward key (length key.epoch.plan.stages)) n came →
       EachFrom (IsTold key) n told
-  pub all : end ≡ None → (length told ≡ length came) × ((key : UnitsKey) (n : ℕ) → old.tells_stages ≡ key.tells_stages → Judges old key.epoch n →
+  pub all : end ≡ None → (length told ≡ length came) × ((key : UnitsKey) (n : ℕ) → Judges old key.epoch n →
       EachFrom (IsOnward key (length key.epoch.plan.stages)) n came → Judges new key.epoch (n + length told))
-  pub stops : (v : Verdict) → end ≡ Some v → (goes_on_behind v ≡ false) × ((key : UnitsKey) (n : ℕ) → old.tells_stages ≡ key.tells_stages → Judges old key.epoch n →
+  pub stops : (v : Verdict) → end ≡ Some v → (goes_on_behind v ≡ false) × ((key : UnitsKey) (n : ℕ) → Judges old key.epoch n →
       EachFrom (IsOnward key (length key.epoch.plan.stages)) n came → IsTold key (n + length told) v)

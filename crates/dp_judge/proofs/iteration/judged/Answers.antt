@@ -11,7 +11,7 @@ run-answer-requires-clause-settles c = court_settles c.args.court c.requires.cou
 
 pub returns-clause-told : goal.returns-clause-told
 returns-clause-told c =
-    judged_by_code c.args.court c.args.tells_stages c.args.cells c.args.lists.now (state_of c.in_ok-walk.walk) (state_of c.run-answer.new.walk) c.run-answer.result c.requires.court c.in_ok-walk.ensures.state c.run-answer.ensures
+    judged_by_code c.args.court c.args.cells c.args.lists.now (state_of c.in_ok-walk.walk) (state_of c.run-answer.new.walk) c.run-answer.result c.requires.court c.in_ok-walk.ensures.state c.run-answer.ensures
 
 pub returns-clause-wants : goal.returns-clause-wants
 returns-clause-wants c = λ e. subst (λ (s : WalkState). WantsIn c.args.court s) c.in_ok-walk.ensures.state (c.run-answer.ensures.wants e)

@@ -28,16 +28,15 @@ returns-in-Ok-clause-does c =
     subst (λ (z : ℤ). c.closes.result ≡ closes_at (first_site c.args.court.program.now c.args.court.plan.now) c.args.site.0 (Decided z)) same
     (c.closes.ensures ∙ ap (λ (n : ℕ). closes_at n c.args.site.0 (Decided (to_z w64 (of_z w64 word.value)))) c.requires.first) in
     store_goes c.args.court _ c.args.pace.now c.args.walk.now c.args.site c.args.at c.args.next word refl c.requires.at c.requires.there c.requires.found c.word_at-word.ensures
-    c.closes.result closes c.args.first.0 c.args.count c.set.new.self c.note_store.new.stores c.note_store.new.stages (omega (arith, c.if-word-first.false)) (omega (arith, c.if-word-first.false, c.if-word-first-2.false))
+    c.closes.result closes c.args.first.0 c.args.count c.set.new.self c.push.new.self (omega (arith, c.if-word-first.false)) (omega (arith, c.if-word-first.false, c.if-word-first-2.false))
     (subst (λ (z : ℤ). c.set.new.self ≡ slice_set c.args.walk.now.cells word.index z) same c.set.ensures)
-    (c.in-Ok.ensures.stores ∙ ap (λ (s : StoreOf). c.args.walk.now.stores ++ s ∷ []) c.store_of-store.ensures)
-    c.in-Ok.ensures.stages
-    ∙ sym (ap (λ pace. On (state_at pace (record c.args.walk.now { cells = c.set.new.self; stores = c.note_store.new.stores; stages = c.note_store.new.stages }))) c.pass.ensures)
+    (c.in-Ok.ensures.ok ∙ ap (λ (s : StoreOf). c.args.walk.now.stores ++ s ∷ []) c.store_of.ensures)
+    ∙ sym (ap (λ pace. On (state_at pace (record c.args.walk.now { cells = c.set.new.self; stores = c.push.new.self }))) c.pass.ensures)
 
 pub returns-in-Err-clause-does : goal.returns-in-Err-clause-does
 returns-in-Err-clause-does c =
     let word = c.word_at-word.result in
     subst GoesOn
     (sym (store_goes c.args.court _ c.args.pace.now c.args.walk.now c.args.site c.args.at c.args.next word refl c.requires.at c.requires.there c.requires.found c.word_at-word.ensures
-    (closes_at (first_site c.args.court.program.now c.args.court.plan.now) c.args.site.0 (Decided word.value)) refl c.args.first.0 c.args.count _ _ _
-    (omega (arith, c.if-word-first.false)) (omega (arith, c.if-word-first.false, c.if-word-first-2.false)) refl refl refl)) tt
+    (closes_at (first_site c.args.court.program.now c.args.court.plan.now) c.args.site.0 (Decided word.value)) refl c.args.first.0 c.args.count _ _
+    (omega (arith, c.if-word-first.false)) (omega (arith, c.if-word-first.false, c.if-word-first-2.false)) refl refl)) tt

@@ -2,7 +2,7 @@ use Rattle.std.proofs.Common.{sym, ◌∙◌}
 use Rattle.dp_pipeline.specs.Keys.{key_of}
 use Rattle.dp_pipeline.proofs.trying.judge_of.Goals as goal
 
-pub returns-clause-judges : goal.returns-clause-judges
-returns-clause-judges c =
+pub returns : goal.returns
+returns c =
     let is = c.requires.setting in
-    c.in_ok-court.ensures.begins (key_of c.args.setting.key.epoch).epoch (is.program ∙ sym c.court-given.ensures.program) (is.plan ∙ sym c.court-given.ensures.plan) (sym c.into_base.ensures) c.court-given.ensures.limit
+    c.in_ok-court.ensures (key_of c.args.setting.key.epoch).epoch (is.program ∙ sym c.court-given.ensures.program) (is.plan ∙ sym c.court-given.ensures.plan) (sym c.into_base.ensures) c.court-given.ensures.limit

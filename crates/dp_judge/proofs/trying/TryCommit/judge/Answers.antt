@@ -6,4 +6,4 @@ use Rattle.std.proofs.lemmas.Option.{same_Some}
 
 pub returns-in-Some-clause-verdict : goal.returns-in-Some-clause-verdict
 returns-in-Some-clause-verdict c = λ key n at last.
-    c.judge_in.ensures.verdict key n (knows_same key n c.args.self.now _ at.knows (record { program = refl; plan = refl; locals = refl; tells = refl }) refl) (same_Some c.in-Some.cells (state_at key n).cells (sym c.in-Some.is ∙ c.take.ensures.value ∙ at.cells)) last
+    c.judge_in.ensures.verdict key n (knows_same key n c.args.self.now _ at.knows (record { program = refl; plan = refl; locals = refl }) refl) (same_Some c.in-Some.cells (state_at key n).cells (sym c.in-Some.is ∙ c.take.ensures.value ∙ at.cells)) last
