@@ -1,5 +1,5 @@
 -- What is kept of a region between two iterations: at its start, where an epoch is to begin, and behind an iteration.
-use Rattle.std.proofs.Common.{◌≡◌, refl, sym, ap, ◌∙◌, subst, ℕ, ◌≤◌, List, [], ◌++◌, ℤ, pos, length, get_or, Option, None, arith, false, is_some}
+use Rattle.std.proofs.Common.{◌≡◌, refl, sym, ap, ◌∙◌, subst, ℕ, ◌≤◌, List, [], ◌++◌, ℤ, pos, length, get_or, Option, None, arith, false}
 use Rattle.std.specs.List.Sorted.{IsNonDecreasing}
 use Rattle.dp_tree.specs.declared.Program.{Program}
 use Rattle.dp_tree.specs.InMain.{StandsInMain}

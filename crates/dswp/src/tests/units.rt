@@ -1,5 +1,4 @@
-//! The units of one epoch, polled by hand: what a poll answers, that no order of polls changes a verdict, and the stages that a
-//! verdict tells.
+//! The units of one epoch, polled by hand: what a poll answers, and that no order of polls changes a verdict.
 ghost use Rattle.std.specs.Prelude.{◌≡◌, ◌<◌, ◌^◌, ◌-◌, IfOk};
 ghost use Rattle.dp_tree.specs.Inlined.{IsInlined};
 
