@@ -13,3 +13,6 @@ pub mod OwnBlocks
 pub mod Moving
 pub mod Following
 pub mod Evaluations
+pub mod ValueCode
+pub mod LeanOrder
+pub mod NotesMade
