@@ -16,6 +16,7 @@ use Rattle.dp_plan.specs.Access.{stage_of}
 use Rattle.dp_net.specs.NetItems.{Marks}
 use Rattle.dp_code.specs.declared.Op.{Op}
 use Rattle.dp_code.specs.declared.Op.TheVariants as op
+use Rattle.dp_code.specs.Code.{expr_code}
 use Rattle.dp_code.specs.Order.{gives_value, passes, leads_on}
 unfoldable use Rattle.dp_code.specs.Order.{in_order}
 use Rattle.dp_code.proofs.CodeOrder.{IsPlain}
@@ -95,7 +96,7 @@ module _ (p : Program) (plan : Plan) (s : ℕ) where
   no_begin (o ∷ ops) = no_begin ops
 
   value_good : (e : Expr) (at : ℕ) → Good at (value_code p e at)
-  value_good e at = record { order = value_ordered p e at; blocks = no_begin _ }
+  value_good e at = record { order = value_ordered p e at; blocks = no_begin (expr_code p e at) }
 
   -- an expression and the op of its site
   site_good : (e : Expr) (at : ℕ) (o : LeanOp) → ((k : ℕ) → Good k (o ∷ [])) → Good at (value_code p e at ++ o ∷ [])

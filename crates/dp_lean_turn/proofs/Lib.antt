@@ -16,3 +16,4 @@ pub mod Evaluations
 pub mod ValueCode
 pub mod LeanOrder
 pub mod NotesMade
+pub mod CheckedPlaces
