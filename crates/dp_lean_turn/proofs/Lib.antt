@@ -17,3 +17,4 @@ pub mod ValueCode
 pub mod LeanOrder
 pub mod NotesMade
 pub mod CheckedPlaces
+pub mod BlockPlaces

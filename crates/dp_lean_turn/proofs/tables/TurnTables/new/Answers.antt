@@ -19,7 +19,8 @@ returns c =
     let p = c.args.program.now in let plan = c.args.plan.now in
     record {
       ops = c.in_ok-ops.ensures;
-      notes = c.in_ok-notes.ensures;
+      notes = c.in_ok-notes.ensures.right;
+      finishes = c.in_ok-notes.ensures.finishes;
       hidden = λ at site here cell.
           c.in_ok-hidden.ensures plan cell c.requires.known
           ∙ ap (λ (s : ℕ). (paying_marks p plan).hides s cell) (sym (blocks_own p plan c.args.stage (paying_marks p plan) c.args.code.now c.requires.code at site here));
