@@ -1,7 +1,7 @@
 -- A checked site is one of the region, and so has a place where each of these has one.
-use Rattle.dp_semantics.proofs.Names.{◌≡◌, refl, sym, ap, ◌∙◌, arith, ℕ, ◌+◌, ◌-◌, ◌<◌, ◌≤◌, ◌==◌, ◌||◌, Bool, true, false, List, [], ◌∷◌, length, map, list_any, inl, inr, cases_lt, and_parts, Program, Plan, Access, first_site, region_accesses, fits_plan}
+use Rattle.dp_semantics.proofs.Names.{◌≡◌, refl, sym, ap, ◌∙◌, arith, ℕ, ◌+◌, ◌-◌, ◌<◌, ◌≤◌, ◌==◌, ◌||◌, Bool, true, false, List, [], ◌∷◌, length, list_any, inl, inr, cases_lt, and_parts, Program, Plan, Access, first_site, region_accesses, fits_plan}
 use Rattle.dp_tree.specs.Inlined.{IsInlined}
-use Rattle.dp_plan.specs.Checked.{has_site, is_checked_access, is_checked, may_differ}
+use Rattle.dp_plan.specs.Checked.{has_site, is_checked_access, may_differ}
 use Rattle.dp_plan.specs.Access.{stage_of}
 use Rattle.dp_columns.specs.declared.ColumnKind.{ColumnKind}
 use Rattle.dp_lean_code.proofs.Missing.{none_below, none_past}

@@ -1,11 +1,10 @@
 -- The values of a lean code are in order, and its own blocks are of the code's stage.
-use Rattle.std.proofs.Common.{◌≡◌, refl, sym, ap, ◌∙◌, ℕ, zero, suc, ◌+◌, ◌-◌, ◌==◌, ◌&&◌, if◌then◌else◌, Bool, true, false, nat_lt, List, [], ◌∷◌, ◌++◌, length, map, Some, slice_get, arith}
+use Rattle.std.proofs.Common.{◌≡◌, refl, sym, ap, ◌∙◌, ℕ, zero, suc, ◌+◌, ◌-◌, ◌==◌, if◌then◌else◌, Bool, true, false, nat_lt, List, [], ◌∷◌, ◌++◌, length, map, Some, slice_get, arith}
 use Rattle.std.specs.List.{list_all}
 use Rattle.std.proofs.lemmas.Bool.{and_from, and_parts, eqb-true}
 use Rattle.std.proofs.lemmas.List.{map-append}
 use Rattle.std.proofs.lemmas.List.Folds.{list_all-append}
 use Rattle.dp_base.specs.declared.SiteId.{SiteId}
-use Rattle.dp_base.specs.declared.VarId.{VarId}
 use Rattle.dp_tree.specs.declared.Expr.{Expr}
 use Rattle.dp_tree.specs.declared.Stmt.{Stmt, out-Stmt, Row_of-Stmt, end_of-Stmt, more_of-Stmt}
 use Rattle.dp_tree.specs.declared.Stmt.TheVariants as stmt

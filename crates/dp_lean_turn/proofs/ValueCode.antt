@@ -1,5 +1,5 @@
 -- The ops of an expression's code all give values, so that they are their own value parts; and skips in them end among them.
-use Rattle.std.proofs.Common.{◌≡◌, refl, sym, ap, ◌∙◌, ℕ, zero, suc, ◌+◌, ◌-◌, ◌&&◌, if◌then◌else◌, Bool, true, false, nat_lt, List, [], ◌∷◌, ◌++◌, map}
+use Rattle.std.proofs.Common.{◌≡◌, refl, ap, ◌∙◌, ℕ, zero, suc, ◌+◌, ◌-◌, if◌then◌else◌, Bool, true, false, nat_lt, List, [], ◌∷◌, ◌++◌, map}
 use Rattle.std.specs.List.{list_all}
 use Rattle.std.proofs.lemmas.Bool.{and_from, and_parts}
 use Rattle.std.proofs.lemmas.List.Folds.{list_all-append}
@@ -13,10 +13,9 @@ unfoldable use Rattle.dp_code.specs.Code.{expr_code}
 use Rattle.dp_code.specs.Order.{gives_value, passes, leads_on}
 unfoldable use Rattle.dp_code.specs.Order.{in_order}
 use Rattle.dp_code.proofs.CodeOrder.{IsOrdered, site_ordered}
-use Rattle.dp_lean_code.specs.declared.LeanOp.{LeanOp}
 use Rattle.dp_lean_code.specs.declared.LeanOp.TheVariants.{Plain}
 use Rattle.dp_lean_code.specs.LeanCode.{value_code}
-use Rattle.dp_lean_turn.specs.Notes.{value_or_end, value_part}
+use Rattle.dp_lean_turn.specs.Notes.{value_part}
 
 abbrev Gives : List Op → Type 0
 Gives ops = list_all gives_value ops ≡ true

@@ -11,9 +11,9 @@ loop-place-preserved c = λ plan cell.
     let here = sym (ap (λ (hs : List (Option ℕ)). is_home c.args.stage (get_or hs i None)) c.as_slice-home-items.ensures) ∙ sym c.is_home.ensures in
     elim c.if-is_home.branch [
       | then-is_home+in_ok-mark w ↦ marks_on p plan c.args.stage cell homes i None below mark (c.loop-place.invariant plan cell) (get_or c.if-is_home.hidden cell false) (here ∙ w.if-is_home.true)
-        (ap (λ (marks : List Bool). get_or marks cell false) w.hidden-is ∙ w.in_ok-mark.ensures cell ∙ ap (λ (k : ℕ). (k == cell) || mark) w.first_at.ensures)
+          (ap (λ (marks : List Bool). get_or marks cell false) w.hidden-is ∙ w.in_ok-mark.ensures cell ∙ ap (λ (k : ℕ). (k == cell) || mark) w.first_at.ensures)
       | else-is_home w ↦ subst (λ (marks : List Bool). SoFar p plan c.args.stage cell homes (i + 1) (get_or marks cell false) (i + 1)) (sym w.hidden-is)
-        (marks_stay p plan c.args.stage cell homes i None below mark (c.loop-place.invariant plan cell) (here ∙ w.if-is_home.false))
+          (marks_stay p plan c.args.stage cell homes i None below mark (c.loop-place.invariant plan cell) (here ∙ w.if-is_home.false))
     ]
 
 pub returns : goal.returns

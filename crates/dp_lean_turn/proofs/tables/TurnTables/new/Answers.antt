@@ -1,5 +1,4 @@
-use Rattle.std.proofs.Common.{◌∙◌, sym, ap, ℕ, List}
-use Rattle.dp_code.specs.declared.Op.{Op}
+use Rattle.std.proofs.Common.{◌∙◌, sym, ap, ℕ}
 use Rattle.dp_engine.specs.Forms.{forms_of}
 use Rattle.dp_lean_code.specs.Known.{paying_marks}
 use Rattle.dp_lean_turn.proofs.LeanOrder.{blocks_own, values_ordered}
