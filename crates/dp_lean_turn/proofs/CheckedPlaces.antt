@@ -6,7 +6,7 @@ use Rattle.dp_plan.specs.Access.{stage_of}
 use Rattle.dp_columns.specs.declared.ColumnKind.{ColumnKind}
 use Rattle.dp_lean_code.proofs.Missing.{none_below, none_past}
 use Rattle.dp_lean_code.proofs.ProgramRight.{ascends}
-use Rattle.dp_lean_turn.specs.Made.{HavePlaces}
+use Rattle.dp_lean_turn.specs.Made.{CheckedHavePlaces}
 
 module _ (p : Program) (plan : Plan) where
   found : (y : ℕ) (all : List Access) → list_any (is_checked_access p plan y) all ≡ true → has_site y all ≡ true
@@ -35,5 +35,5 @@ module _ (p : Program) (plan : Plan) where
           ]
         ]
 
-    pub checked_places : (own : List ColumnKind) → length (region_accesses p plan) ≤ length own → HavePlaces p plan own
+    pub checked_places : (own : List ColumnKind) → length (region_accesses p plan) ≤ length own → CheckedHavePlaces p plan own
     checked_places own long y checked = let low = among y (found y (region_accesses p plan) checked) in omega (arith, low, long)
