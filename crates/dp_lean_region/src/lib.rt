@@ -4,6 +4,7 @@
 //! `specs/` says what is known of an epoch of such a region. The laws are that this is so of each.
 #![tactic(auto)]
 
+mod law;
 mod line;
 mod region;
 

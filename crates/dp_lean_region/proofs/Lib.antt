@@ -1,0 +1,2 @@
+pub mod SiteKinds
+pub mod Lawful
