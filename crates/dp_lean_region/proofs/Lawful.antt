@@ -71,7 +71,7 @@ module _ (key : EpochKey) (cap : ℕ) (inlined : IsInlined key.program) (fits : 
   }
 
 -- no two neighbours are replicated
-neighbours : (p : Program) (plan : Plan) → fits_plan p plan ≡ true → (s : ℕ) → is_replicated plan s ≡ true → is_replicated plan (suc s) ≡ false
+pub neighbours : (p : Program) (plan : Plan) → fits_plan p plan ≡ true → (s : ℕ) → is_replicated plan s ≡ true → is_replicated plan (suc s) ≡ false
 neighbours p plan fits s par = by (is_replicated plan (suc s)) refl
   where
     by : (next : Bool) → is_replicated plan (suc s) ≡ next → next ≡ false

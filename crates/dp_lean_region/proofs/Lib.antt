@@ -1,2 +1,6 @@
 pub mod SiteKinds
 pub mod Lawful
+pub mod StoreForms
+pub mod FedBy
+pub mod AllOver
+pub mod Capped

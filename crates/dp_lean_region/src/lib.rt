@@ -4,8 +4,13 @@
 //! `specs/` says what is known of an epoch of such a region. The laws are that this is so of each.
 #![tactic(auto)]
 
+mod capping;
+mod counting;
+mod feeding;
+mod keeping;
 mod law;
 mod line;
+mod locals;
 mod region;
 
 pub use line::{JudgeTables, Line, ReadyStage};
