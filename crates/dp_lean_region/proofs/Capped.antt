@@ -1,5 +1,5 @@
 -- How many iterations may go together.
-use Rattle.std.proofs.Common.{◌≡◌, subst, ℕ, ◌≤◌, [], Bool, true, false, length, if◌then◌else◌}
+use Rattle.std.proofs.Common.{◌≡◌, subst, ℕ, ◌≤◌, [], Bool, true, length, if◌then◌else◌}
 use Rattle.std.specs.List.{list_all}
 use Rattle.dp_tree.specs.declared.Program.{Program}
 use Rattle.dp_tree.specs.Numbering.{numbers_from}

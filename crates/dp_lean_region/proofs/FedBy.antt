@@ -1,11 +1,10 @@
 -- A stage feeds itself where one of the region's stores is its own, of a variable that it does stores to, and that outlives the iteration.
-use Rattle.dp_semantics.proofs.Names.{◌≡◌, refl, sym, ap, ◌∙◌, arith, and-false, or-false, list_any-append, ltb-true, ne_eqb, le-ltb, ℕ, suc, ◌<◌, ◌≤◌, ◌&&◌, ◌||◌, ◌==◌, if◌then◌else◌, not, Bool, true, false, List, [], ◌∷◌, ◌++◌, length, list_any, flat_map, Option, Some, None, Stmt, Program, Plan, Access, accesses, stage_of, is_replicated, is_body_local, last, region_statement, region_accesses, fits_plan}
+use Rattle.dp_semantics.proofs.Names.{◌≡◌, refl, sym, ap, ◌∙◌, arith, or-false, list_any-append, le-ltb, ℕ, suc, ◌<◌, ◌≤◌, ◌&&◌, ◌||◌, ◌==◌, if◌then◌else◌, not, Bool, true, false, List, [], ◌∷◌, length, list_any, flat_map, Some, None, Stmt, Program, Plan, accesses, stage_of, is_replicated, is_body_local, region_statement, region_accesses, fits_plan}
 use Rattle.dp_tree.specs.declared.Stmt.TheVariants as tree
 use Rattle.dp_tree.specs.Inlined.{IsInlined}
 use Rattle.dp_tree.specs.Statements.{asked}
 use Rattle.dp_tree.proofs.Asked.{asked_both}
 use Rattle.dp_plan.specs.Access.{access_at}
-use Rattle.dp_semantics.proofs.StageKinds.{fitting_kinds}
 use Rattle.dp_lean.specs.Needed.{is_judge, is_loaded_in, is_done_to, wanted}
 use Rattle.dp_lean_code.specs.declared.tables.LeanTables.{LeanTables}
 use Rattle.dp_lean_code.specs.Known.{AreTablesOf}
@@ -14,7 +13,7 @@ use Rattle.dp_lean_code.proofs.ProgramRight.{ok}
 use Rattle.dp_lean_code.proofs.TablesRight.{done_right}
 use Rattle.dp_lean_epoch.specs.Steps.{feeds, feeds_itself, keeps_memory}
 use Rattle.dp_lean_region.specs.declared.feeding.SiteStore.{SiteStore}
-use Rattle.dp_lean_region.specs.steps.Fed.{feeds_by, feeds_among, keeps_among, region_stores}
+use Rattle.dp_lean_region.specs.steps.Fed.{feeds_among, keeps_among, region_stores}
 unfoldable use Rattle.dp_lean_region.specs.steps.Fed.{stored_at}
 use Rattle.dp_lean_region.proofs.Lawful.{neighbours}
 

@@ -1,12 +1,11 @@
 -- The laws hold in each epoch of a region.
-use Rattle.dp_semantics.proofs.Names.{◌≡◌, refl, sym, ap, ◌∙◌, subst, arith, both_ways, ℕ, suc, ◌<◌, ◌≤◌, ◌&&◌, ◌+◌, Bool, true, false, not, List, length, list_all, Stmt, Program, Plan, stage_of, is_replicated, numbers_from, fits_plan, kinds_apart, kinds_fit}
+use Rattle.dp_semantics.proofs.Names.{◌≡◌, refl, sym, ap, ◌∙◌, subst, arith, both_ways, ℕ, suc, ◌≤◌, Bool, true, false, List, Stmt, Program, Plan, is_replicated, fits_plan}
 use Rattle.dp_tree.specs.Inlined.{IsInlined}
 use Rattle.dp_semantics.specs.EpochKey.{EpochKey}
 use Rattle.dp_semantics.proofs.StageKinds.{fitting_kinds}
 use Rattle.dp_judge.specs.Judging.{HasStages}
 use Rattle.dp_theorem.proofs.Fitting.{accepted}
 use Rattle.dp_net.specs.Hidden.{pays_off}
-use Rattle.dp_lean.specs.Laws.{is_read}
 use Rattle.dp_lean_code.specs.Known.{paying_marks}
 use Rattle.dp_lean_judge.proofs.JudgeCodes.{judge_code_is_right}
 use Rattle.dp_lean_epoch.specs.Steps.{keeps_memory}
@@ -23,11 +22,11 @@ use Rattle.dp_lean_epoch.proofs.JudgeMidways.{judge_midway_steps}
 use Rattle.dp_lean_epoch.proofs.JudgeStepping.{judge_steps, voids_recover}
 use Rattle.dp_lean_epoch.proofs.Memories.{epoch_begins}
 use Rattle.dp_lean_epoch.proofs.Caps.{batches_kept}
-use Rattle.dp_lean_kinds.proofs.KeptEnough.{keep_enough, needed_behind}
+use Rattle.dp_lean_kinds.proofs.KeptEnough.{needed_behind}
 use Rattle.dp_lean_kinds.proofs.Sizes.{read_there}
 use Rattle.dp_lean_region.specs.LeanEpoch.{LeanEpoch, marks_in, kept_in, HasLaws, HasJudgeLaws, IsLeanEpoch}
 use Rattle.dp_lean_region.specs.Region.{lean_epoch}
-use Rattle.dp_lean_region.specs.Laws.{IsLawful, AreLawful}
+use Rattle.dp_lean_region.specs.Laws.{AreLawful}
 use Rattle.dp_lean_region.proofs.SiteKinds.{kept_there, placed, checked_there}
 
 module _ (key : EpochKey) (cap : ℕ) (inlined : IsInlined key.program) (fits : fits_plan key.program key.plan ≡ true) where

@@ -4,3 +4,4 @@ pub mod StoreForms
 pub mod FedBy
 pub mod AllOver
 pub mod Capped
+pub mod Holding

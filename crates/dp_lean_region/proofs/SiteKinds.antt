@@ -1,6 +1,5 @@
 -- Each site of a region has its kind at its own place, and a needed one is kept.
-use Rattle.dp_semantics.proofs.Names.{◌≡◌, ◌⊎◌, ◌++◌, inl, inr, refl, sym, ap, ◌∙◌, subst, arith, length-map, map-append, or_parts, eqb-true, eq-eqb, cases_lt, ℕ, zero, suc, ◌+◌, ◌-◌, ◌<◌, ◌≤◌, ◌&&◌, ◌||◌, ◌==◌, if◌then◌else◌, Bool, true, false, List, [], ◌∷◌, length, map, slice_get, get_or, Some, flat_map, Stmt, Program, Plan, Access, accesses, stage_of, first_site, is_checked, is_checked_access, last, numbers_from, region_statement, region_accesses, list_any, fits_plan}
-use Rattle.std.proofs.lemmas.Bool.{and_parts}
+use Rattle.dp_semantics.proofs.Names.{◌≡◌, ◌⊎◌, ◌++◌, inl, inr, refl, sym, ap, ◌∙◌, subst, arith, length-map, map-append, eqb-true, eq-eqb, cases_lt, ℕ, zero, suc, ◌+◌, ◌-◌, ◌<◌, ◌≤◌, ◌&&◌, ◌||◌, ◌==◌, if◌then◌else◌, Bool, true, false, List, [], ◌∷◌, length, map, slice_get, Some, flat_map, Stmt, Program, Plan, Access, accesses, stage_of, first_site, is_checked, is_checked_access, last, region_statement, region_accesses, list_any, fits_plan}
 use Rattle.std.proofs.lemmas.Option.{get_or_from_slice_get, slice_get-map}
 use Rattle.dp_tree.specs.declared.Stmt.TheVariants as tree
 use Rattle.dp_tree.specs.Inlined.{IsInlined}
@@ -83,9 +82,11 @@ module _ (p : Program) (plan : Plan) (inlined : IsInlined p) (fits : fits_plan p
     where
       up : Ascends (first_site p plan) (map site_in (region_accesses p plan))
       up = ascends p plan inlined fits
+
       from : (y < first_site p plan) ⊎ (first_site p plan ≤ y) → first_site p plan ≤ y
       from (inl low) = let clash = sym (none_below (first_site p plan) y (region_accesses p plan) up low) ∙ there in absurd (cc clash)
       from (inr low) = low
+
       upto : (y < first_site p plan + length (region_accesses p plan)) ⊎ (first_site p plan + length (region_accesses p plan) ≤ y) → y < first_site p plan + length (region_accesses p plan)
       upto (inl high) = high
       upto (inr high) = let clash = sym (none_past (first_site p plan) y (region_accesses p plan) up high) ∙ there in absurd (cc clash)

@@ -7,11 +7,14 @@
 mod capping;
 mod counting;
 mod feeding;
+mod judging;
 mod keeping;
 mod law;
 mod line;
 mod locals;
 mod region;
+mod stages;
+mod stand_in;
 
 pub use line::{JudgeTables, Line, ReadyStage};
 pub use region::RegionTables;

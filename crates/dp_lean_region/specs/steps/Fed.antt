@@ -1,7 +1,6 @@
 -- The stores of a region, for the question whether a stage may load what it stored itself.
 use Rattle.std.specs.Prelude.{ℕ, ◌==◌, Bool, not, ◌&&◌, List, [], ◌∷◌}
 use Rattle.std.specs.List.{list_any, flat_map}
-use Rattle.dp_base.specs.declared.SiteId.{SiteId}
 use Rattle.dp_tree.specs.declared.Stmt.{Stmt}
 use Rattle.dp_tree.specs.declared.Stmt.TheVariants.{Assign, Store, Print, If', While', Region', Break, Call}
 use Rattle.dp_tree.specs.declared.Program.{Program}

@@ -1,4 +1,4 @@
-use Rattle.std.proofs.Common.{◌≡◌, sym, ◌∙◌}
+use Rattle.std.proofs.Common.{sym, ◌∙◌}
 use Rattle.dp_lean_region.proofs.Capped.{cap_where}
 use Rattle.dp_lean_region.proofs.capping.cap_of.Goals as goal
 

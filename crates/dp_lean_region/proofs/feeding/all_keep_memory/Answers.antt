@@ -1,8 +1,7 @@
-use Rattle.std.proofs.Common.{◌≡◌, sym, ap, ◌∙◌, arith, ◌+◌, ◌<◌, length, List, Bool, true, false}
+use Rattle.std.proofs.Common.{◌≡◌, sym, ap, ◌∙◌, arith, ◌+◌, ◌<◌, length}
 use Rattle.dp_lean_epoch.specs.Steps.{keeps_memory}
-use Rattle.dp_lean_region.specs.declared.feeding.SiteStore.{SiteStore}
 use Rattle.dp_lean_region.specs.steps.Fed.{keeps_among}
-use Rattle.dp_lean_region.proofs.AllOver.{all_next, all_fails, all_over}
+use Rattle.dp_lean_region.proofs.AllOver.{all_next, all_fails}
 use Rattle.dp_lean_region.proofs.FedBy.{keeps_is}
 use Rattle.dp_lean_region.proofs.feeding.all_keep_memory.Goals as goal
 

@@ -1,4 +1,4 @@
-use Rattle.std.proofs.Common.{◌≡◌, ◌+◌, ◌<◌, ap, ◌∙◌, arith, length, ℕ}
+use Rattle.std.proofs.Common.{◌≡◌, ◌+◌, ◌<◌, ap, ◌∙◌, arith, length}
 use Rattle.dp_lean_code.specs.Known.{paying_marks}
 use Rattle.dp_lean_code.proofs.NeedLists.{number_next}
 use Rattle.dp_lean_kinds.specs.ColumnKinds.{region_kinds}
