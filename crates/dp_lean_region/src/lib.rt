@@ -8,7 +8,7 @@ mod capping;
 mod counting;
 mod feeding;
 mod judging;
-mod keeping;
+mod kinds;
 mod law;
 mod line;
 mod locals;
