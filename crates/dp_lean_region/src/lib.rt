@@ -14,7 +14,6 @@ mod line;
 mod locals;
 mod region;
 mod stages;
-mod stand_in;
 
 pub use line::{JudgeTables, Line, ReadyStage};
 pub use region::RegionTables;

@@ -16,7 +16,7 @@ use Rattle.dp_lean_turn.specs.Standing.{AreHidden}
 use Rattle.dp_lean_turn.specs.Standing as standing
 use Rattle.dp_lean_judge.specs.Ready.{AllKept, IsReady}
 use Rattle.dp_lean_region.specs.Region.{IsCap, IsFitting, plan_kinds}
-use Rattle.dp_lean_region.specs.steps.StandIn.{AreTurnTables}
+use Rattle.dp_lean_turn.specs.Made.{AreTurnTables}
 use Rattle.dp_lean_region.specs.declared.line.ReadyStage.{ReadyStage}
 use Rattle.dp_lean_region.specs.declared.stages.StageTables.{StageTables}
 use Rattle.dp_lean_region.specs.declared.judging.JudgeMade.{JudgeMade}
