@@ -19,7 +19,7 @@ use Rattle.dp_lean_epoch.specs.Holding.{place_of, Holds, StageColumns, filled}
 use Rattle.dp_lean_epoch.specs.LeanBatch.{Stood}
 use Rattle.dp_lean_epoch.specs.Laws.{ColumnsFill}
 use Rattle.dp_lean_epoch.specs.Steps.{keeps_memory}
-use Rattle.dp_lean_machine.specs.LeanEpoch.{LeanEpoch, marks_in, begin_in, size_in}
+use Rattle.dp_lean_region.specs.LeanEpoch.{LeanEpoch, marks_in, begin_in, size_in}
 use Rattle.dp_lean_machine.specs.Sent.{AsStatus, Unless}
 use Rattle.dp_lean_machine.specs.Within.{own_kinds, own_kept, Within, Ended, IsRan, IsCame}
 use Rattle.dp_lean_machine.specs.declared.turning.Ran.{Ran}
@@ -107,7 +107,7 @@ all_ran cells e s b came ends like is t counts at = (by came.status like, onward
     by status.Void q = subst (λ (o : NetStatus). Ended e s b t.teller.own counts (stood o)) q ended
     by status.NoMemory q = tt
 
-    onward : came.status ≡ status.Going → keeps_memory (marks_in e) e.key (suc s) ≡ true → LeanStands (marks_in e) e.key (suc s) (begin_in e b + size_in e b) (cells t.memory)
+    onward : came.status ≡ status.Going → keeps_memory e.key.program e.key.plan (suc s) ≡ true → LeanStands (marks_in e) e.key (suc s) (begin_in e b + size_in e b) (cells t.memory)
     onward goes kept =
         subst (λ (i : ℕ). LeanStands (marks_in e) e.key (suc s) (begin_in e b + i) (cells t.memory))
         (is.stands.whole (subst (λ (x : BatchStatus). AsStatus x ends) goes like)) (at.memory (inl kept))

@@ -8,12 +8,12 @@ use Rattle.dp_lean_turn.specs.Ending.{CanTurn}
 use Rattle.dp_lean_turn.specs.Left.{AreLeft, all_kinds}
 use Rattle.dp_lean_epoch.specs.Coming.{Coming, LeanStands}
 use Rattle.dp_lean_epoch.specs.LeanBatch.{Stood}
-use Rattle.dp_lean_machine.specs.LeanEpoch.{LeanEpoch, marks_in, begin_in}
-use Rattle.dp_lean_machine.specs.Line.{RunsIn}
+use Rattle.dp_lean_region.specs.LeanEpoch.{LeanEpoch, marks_in, begin_in}
+use Rattle.dp_lean_region.specs.Line.{RunsIn}
 use Rattle.dp_lean_machine.specs.Held.{kinds_in}
-use Rattle.dp_lean_machine.specs.Ready.{CanRead, IsStageReady}
+use Rattle.dp_lean_region.specs.Ready.{CanRead, IsStageReady}
 use Rattle.dp_lean_machine.specs.Within.{own_kinds, read_of, Within, Comes}
-use Rattle.dp_lean_machine.specs.declared.line.ReadyStage.{ReadyStage}
+use Rattle.dp_lean_region.specs.declared.ReadyStage.{ReadyStage}
 use Rattle.dp_lean_machine.specs.declared.batch.StageColumns.{StageColumns}
 use Rattle.dp_lean_machine.proofs.Exchanged.{take_before, kinds_get, kinds_taken}
 

@@ -14,9 +14,9 @@ use Rattle.dp_lean_epoch.specs.Coming.{LeanStands}
 use Rattle.dp_lean_epoch.specs.Steps.{keeps_memory}
 use Rattle.dp_lean_epoch.specs.Laws.{with_columns}
 use Rattle.dp_net.specs.Batches.{batch_at}
-use Rattle.dp_lean_machine.specs.LeanEpoch.{LeanEpoch, IsLeanEpoch, marks_in, kept_in, begin_in, size_in}
+use Rattle.dp_lean_region.specs.LeanEpoch.{LeanEpoch, IsLeanEpoch, marks_in, kept_in, begin_in, size_in}
 use Rattle.dp_lean_machine.specs.Held.{held_in}
-use Rattle.dp_lean_machine.specs.Line.{IsLineOf}
+use Rattle.dp_lean_region.specs.Line.{IsLineOf}
 use Rattle.dp_lean_machine.specs.Sent.{Unless, AsStatus, item_of, IsSent}
 use Rattle.dp_lean_machine.specs.Within.{own_kinds, own_kept, read_of, Ended, IsCame, Comes, IsDone}
 use Rattle.dp_lean_machine.specs.declared.batch.BatchStatus.{BatchStatus}
@@ -53,13 +53,13 @@ module _ (e : LeanEpoch) (is : IsLeanEpoch e) (s b : ℕ) (within : suc s ≤ le
     comes_with =
         let q = is.laws.come is.enough e.cap s b (item earlier stood version) came in
         record {
-          queues = queue_among (marks_in e) e.key (kept_in e) (map held_in earlier);
+          queues = queue_among e.key (map held_in earlier);
           more = q.told.0;
           left = left;
           coming = q.told.1;
         }
       where
-        left : AreLeft e.key.program e.key.plan (map read_of earlier) (queue_among (marks_in e) e.key (kept_in e) (map held_in earlier))
+        left : AreLeft e.key.program e.key.plan (map read_of earlier) (queue_among e.key (map held_in earlier))
         left y t reader here found =
             let place : stage_of e.key.program e.key.plan y - 1 ≡ t = omega (arith, here) in
             ap (λ (u : ℕ). get_or (get_or (map held_in earlier) u no_columns).columns.told (place_of e.key y) []) place
@@ -89,7 +89,7 @@ module _ (e : LeanEpoch) (is : IsLeanEpoch e) (s b : ℕ) (within : suc s ≤ le
       s < length came.stages → out.line ≡ came.line → out.first ≡ came.first → out.stages ≡ slice_set (slice_set came.stages s h) s own → out.iterations ≡ ran.iterations → out.status ≡ ran.status →
       (is_replicated e.key.plan (suc (suc s)) ≡ true → IsVersion (marks_in e) e.key (suc (suc s)) (begin_in e b) out.version) → IsDone e s b cells ran own after →
       IsSent e (suc s) b out
-      × (out.status ≡ status.Going → keeps_memory (marks_in e) e.key (suc s) ≡ true → LeanStands (marks_in e) e.key (suc s) (begin_in e (suc b)) (cells after))
+      × (out.status ≡ status.Going → keeps_memory e.key.program e.key.plan (suc s) ≡ true → LeanStands (marks_in e) e.key (suc s) (begin_in e (suc b)) (cells after))
   passes_on cells ends like h own out after ran low line first stages many how version_is done = (
     record {
       line = subst (IsLineOf e) (sym line) sent.line;

@@ -22,7 +22,7 @@ use Rattle.dp_lean_turn.specs.declared.Turned.TheVariants as turned
 use Rattle.dp_lean_turn.specs.Doing.{RunEnds, Leaves}
 use Rattle.dp_lean_turn.specs.Ending.{TurnIs, AsTurned}
 use Rattle.dp_lean_turn.specs.Left.{AreLeft}
-use Rattle.dp_lean_turn.specs.Standing.{Keeps}
+use Rattle.dp_lean_turn.specs.Standing.{IsSettled, Keeps}
 use Rattle.dp_lean_turn.specs.Told.{put_own}
 use Rattle.dp_lean_epoch.specs.Own.{at_stage, Arrives, own_items, own_steps, told_upto}
 use Rattle.dp_lean_epoch.specs.Coming.{Brought, Coming, LeanStands}
@@ -30,13 +30,14 @@ use Rattle.dp_lean_epoch.specs.Holding.{StageColumns, Holds, Grown, filled, Have
 use Rattle.dp_lean_epoch.specs.LeanBatch.{Stood, Stands}
 use Rattle.dp_lean_epoch.specs.Laws.{ColumnsFill}
 use Rattle.dp_lean_epoch.specs.Steps.{keeps_memory, without_locals, ArrivesAs, StepEnds, CodeEnds}
-use Rattle.dp_lean_machine.specs.LeanEpoch.{LeanEpoch, marks_in, kept_by, begin_in, size_in}
-use Rattle.dp_lean_machine.specs.Line.{RunsIn}
-use Rattle.dp_lean_machine.specs.Ready.{HasLocals, IsStageReady}
+use Rattle.dp_lean_region.specs.LeanEpoch.{LeanEpoch, marks_in, kept_by, begin_in, size_in}
+use Rattle.dp_lean_region.specs.Line.{RunsIn}
+use Rattle.dp_lean_region.specs.Ready.{HasLocals, IsStageReady}
 use Rattle.dp_lean_machine.specs.Settled.{Settled}
 use Rattle.dp_lean_machine.specs.Within.{own_kinds, own_kept, PassesOn, Within, Ended, IsRan, IsCame, Steps}
-use Rattle.dp_lean_machine.specs.declared.line.ReadyStage.{ReadyStage}
+use Rattle.dp_lean_region.specs.declared.ReadyStage.{ReadyStage}
 use Rattle.dp_lean_machine.specs.declared.turning.TurnEnd.TheVariants as end_of
+use Rattle.dp_lean_machine.proofs.Settling.{filled_settled}
 use Rattle.dp_lean_machine.proofs.Statuses.{still, closed, arrives, closing, voided}
 
 module _ (e : LeanEpoch) (s b : ℕ) (came : Stood) (is : IsCame e s b came) (r : ReadyStage) (runs : RunsIn e s r) (fill : ColumnsFill (marks_in e) e.key (own_kept e s b) (own_kinds e s b)) where
@@ -88,7 +89,7 @@ module _ (e : LeanEpoch) (s b : ℕ) (came : Stood) (is : IsCame e s b came) (r 
     memory_stands : LeanStands (marks_in e) key (suc s) (k + j) (cells old.memory)
     memory_stands = at.memory keeps_or_first
       where
-        first_or_keeps : (q : Bool) → keeps_memory (marks_in e) key (suc s) ≡ q → (keeps_memory (marks_in e) key (suc s) ≡ true) ⊎ (j ≡ 0)
+        first_or_keeps : (q : Bool) → keeps_memory key.program key.plan (suc s) ≡ q → (keeps_memory key.program key.plan (suc s) ≡ true) ⊎ (j ≡ 0)
         first_or_keeps true q = inl q
         first_or_keeps false q =
             let single = is.epoch.single (suc s) q in
@@ -98,14 +99,17 @@ module _ (e : LeanEpoch) (s b : ℕ) (came : Stood) (is : IsCame e s b came) (r 
             alone : e.cap ≤ 1 → n ≤ size_in e b → j ≡ 0
             alone single few = omega (arith, single, few, low)
 
-        keeps_or_first : (keeps_memory (marks_in e) key (suc s) ≡ true) ⊎ (j ≡ 0)
-        keeps_or_first = first_or_keeps (keeps_memory (marks_in e) key (suc s)) refl
+        keeps_or_first : (keeps_memory key.program key.plan (suc s) ≡ true) ⊎ (j ≡ 0)
+        keeps_or_first = first_or_keeps (keeps_memory key.program key.plan (suc s)) refl
 
     took : (end : LeanEnd) × CodeEnds (marks_in e) key (suc s) (cells old.memory) queues end × StepEnds (marks_in e) key s (k + j) rest end
     took = is.epoch.laws.steps s (k + j) is.within here (cells old.memory) memory_stands queues rest brought
 
+    none_waits : IsSettled old.teller.own
+    none_waits = subst IsSettled (sym at.own) (filled_settled (marks_in e) key (own_kept e s b) (own_kinds e s b) (suc s) k j)
+
     turned_as : (new : Turn M) (result : Turned) → TurnIs cells r.frame old new result → AsTurned cells r.frame (marks_in e) old.teller.own took.0 new result
-    turned_as new result turns = turns (marks_in e) queues took.0 runs.hidden (left_in_frame old.readers queues at.queues.2) (code_runs (cells old.memory) queues took.0 took.1)
+    turned_as new result turns = turns (marks_in e) queues took.0 none_waits runs.hidden (left_in_frame old.readers queues at.queues.2) (code_runs (cells old.memory) queues took.0 took.1)
 
     -- the stage's own items are put into its columns
     filled_more : (new : Turn M) (f : LeanTurn) → ArrivesAs (marks_in e) key s (k + j) rest f → Leaves r.frame (marks_in e) old.teller.own cells new f →
@@ -151,7 +155,7 @@ module _ (e : LeanEpoch) (s b : ℕ) (came : Stood) (is : IsCame e s b came) (r 
           next : k + suc j ≡ suc (k + j)
           next = omega arith
 
-          kept_on : (keeps_memory (marks_in e) key (suc s) ≡ true) ⊎ (suc j ≡ 0) → LeanStands (marks_in e) key (suc s) (k + suc j) (cells u.memory)
+          kept_on : (keeps_memory key.program key.plan (suc s) ≡ true) ⊎ (suc j ≡ 0) → LeanStands (marks_in e) key (suc s) (k + suc j) (cells u.memory)
           kept_on (inl q) = subst (λ (i : ℕ). LeanStands (marks_in e) key (suc s) i (cells u.memory)) (sym next)
               (subst (LeanStands (marks_in e) key (suc s) (suc (k + j))) (cleared f l.memory) (a.next q))
           kept_on (inr q) = absurd (omega (arith, q))

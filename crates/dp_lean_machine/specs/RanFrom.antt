@@ -5,7 +5,7 @@ use Rattle.dp_net.specs.NetPackets.{NetStatus}
 use Rattle.dp_lean_epoch.specs.Coming.{LeanStands}
 use Rattle.dp_lean_epoch.specs.LeanBatch.{IsVersion}
 use Rattle.dp_lean_epoch.specs.Steps.{keeps_memory}
-use Rattle.dp_lean_machine.specs.LeanEpoch.{LeanEpoch, IsLeanEpoch, marks_in, begin_in}
+use Rattle.dp_lean_region.specs.LeanEpoch.{LeanEpoch, IsLeanEpoch, marks_in, begin_in}
 use Rattle.dp_lean_machine.specs.Sent.{AsStatus, IsSent}
 use Rattle.dp_lean_machine.specs.declared.batch.LeanBatch.{LeanBatch}
 use Rattle.dp_lean_machine.specs.declared.batch.BatchStatus.TheVariants.{Going}
@@ -18,4 +18,4 @@ RanFrom e s b cells memory version came sent after =
     (is_replicated e.key.plan (suc (suc s)) ≡ true → IsVersion (marks_in e) e.key (suc (suc s)) (begin_in e b) version) →
     (taken : Option (List ℤ)) → IsSent e s b (record came { version = taken }) →
     IsSent e (suc s) b sent
-    × (sent.status ≡ Going → keeps_memory (marks_in e) e.key (suc s) ≡ true → LeanStands (marks_in e) e.key (suc s) (begin_in e (suc b)) (cells after))
+    × (sent.status ≡ Going → keeps_memory e.key.program e.key.plan (suc s) ≡ true → LeanStands (marks_in e) e.key (suc s) (begin_in e (suc b)) (cells after))

@@ -14,7 +14,7 @@ use Rattle.dp_lean_epoch.specs.Holding.{Kept, StageColumns, Holds, filled}
 use Rattle.dp_lean_epoch.specs.LeanBatch.{Stood}
 use Rattle.dp_lean_epoch.specs.LeanBatch as batch
 use Rattle.dp_lean_epoch.specs.Steps.{keeps_memory}
-use Rattle.dp_lean_machine.specs.LeanEpoch.{LeanEpoch, IsLeanEpoch, marks_in, kept_by, begin_in, size_in}
+use Rattle.dp_lean_region.specs.LeanEpoch.{LeanEpoch, IsLeanEpoch, marks_in, kept_by, begin_in, size_in}
 use Rattle.dp_lean_machine.specs.Sent.{Unless}
 use Rattle.dp_lean_machine.specs.declared.turning.Ran.{Ran}
 use Rattle.dp_lean_machine.specs.declared.turning.TurnEnd.{TurnEnd}
@@ -45,7 +45,7 @@ module _ (e : LeanEpoch) (s b : ℕ) where
 
   -- Of n iterations that came the stage has run the first j, and told of them.
   pub record Within {M : Type 0} (cells : M → List ℤ) (n j : ℕ) (t : Turn M) (steps : List ℕ) : Type 0 where
-    pub memory : (keeps_memory (marks_in e) e.key (suc s) ≡ true) ⊎ (j ≡ 0) → LeanStands (marks_in e) e.key (suc s) (begin_in e b + j) (cells t.memory)
+    pub memory : (keeps_memory e.key.program e.key.plan (suc s) ≡ true) ⊎ (j ≡ 0) → LeanStands (marks_in e) e.key (suc s) (begin_in e b + j) (cells t.memory)
     pub queues : (queues more : ℕ → List Told) × AreLeft e.key.program e.key.plan t.readers queues × Coming (marks_in e) e.key s (begin_in e b + j) (n - j) queues more
     pub own : t.teller.own ≡ filled (marks_in e) e.key own_kept own_kinds (suc s) (begin_in e b) j
     pub counts : steps ≡ map (own_steps (marks_in e) e.key (suc s)) (numbers_from (begin_in e b) j)
@@ -67,7 +67,7 @@ module _ (e : LeanEpoch) (s b : ℕ) where
   abbrev pub IsDone : {M : Type 0} → (M → List ℤ) → Ran → Columns → M → Type 0
   IsDone cells ran own memory =
       Unless ran.status (λ ends. Ended own.columns own.steps (record { iterations = ran.iterations; ends = ends }))
-      × (ran.status ≡ status.Going → keeps_memory (marks_in e) e.key (suc s) ≡ true →
+      × (ran.status ≡ status.Going → keeps_memory e.key.program e.key.plan (suc s) ≡ true →
       LeanStands (marks_in e) e.key (suc s) (begin_in e b + size_in e b) (cells memory))
 
   -- .. of a turn

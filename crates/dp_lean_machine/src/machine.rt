@@ -115,7 +115,7 @@ impl LeanMachine {
     ghost use Rattle.std.specs.Prelude.{◌-◌, ℕ};
     ghost use Rattle.dp_net.specs.NetPackets.{NetStatus};
     ghost use Rattle.dp_lean_epoch.specs.Coming.{LeanStands};
-    ghost use Rattle.dp_lean_machine.specs.LeanEpoch.{LeanEpoch, IsLeanEpoch, marks_in};
+    ghost use Rattle.dp_lean_region.specs.LeanEpoch.{LeanEpoch, IsLeanEpoch, marks_in};
     ghost use Rattle.dp_lean_machine.specs.declared.machine.Kept.TheVariants as kept;
     ghost use Rattle.dp_lean_machine.specs.Sent.{AsStatus, IsSent};
     ghost use Rattle.dp_lean_machine.specs.Standing.{StandsAt, Stands, Passes};

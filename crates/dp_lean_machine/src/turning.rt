@@ -5,17 +5,18 @@ ghost use Rattle.dp_judge.specs.Locals.{clear_cells};
 ghost use Rattle.dp_lean_turn.specs.Ending.{CanTurn, TurnIs};
 ghost use Rattle.dp_lean_turn.specs.Standing.{Keeps};
 ghost use Rattle.dp_lean_epoch.specs.LeanBatch.{Stood};
-ghost use Rattle.dp_lean_machine.specs.LeanEpoch.{LeanEpoch};
+ghost use Rattle.dp_lean_region.specs.LeanEpoch.{LeanEpoch};
 ghost use Rattle.dp_net.specs.NetPackets.{NetStatus};
-ghost use Rattle.dp_lean_machine.specs.Line.{RunsIn};
+ghost use Rattle.dp_lean_region.specs.Line.{RunsIn};
 ghost use Rattle.dp_lean_machine.specs.Sent.{AsStatus};
-ghost use Rattle.dp_lean_machine.specs.Ready.{HasLocals};
+ghost use Rattle.dp_lean_region.specs.Ready.{HasLocals};
 ghost use Rattle.dp_lean_machine.specs.Within.{IsCame, Within, Steps, IsRan};
 
-use crate::{BatchStatus, ReadyStage};
+use crate::BatchStatus;
 use dp_base::{CellId, NoMemory, Row};
 use dp_engine::Memory;
-use dp_lean_turn::{Turn, Turned, stage_turn};
+use dp_lean_region::ReadyStage;
+use dp_lean_turn::{Turn, Turned};
 
 /// How many iterations came to their end, and how the last one stands.
 #[derive(Clone, Copy)]
@@ -72,7 +73,7 @@ fn turn_once<'c, 'p, M: Memory + Drop>(
         Within e s b M.cells came.iterations j turn.old steps.old → Steps e s b M.cells came j turn.new steps.new result }
     ensures keeps { Keeps turn.old turn.new }
 {
-    match stage_turn(stage.frame, &stage.ready, turn) {
+    match turn.turn(stage.frame, &stage.ready) {
         Turned::Done {
             closing,
             steps: count,

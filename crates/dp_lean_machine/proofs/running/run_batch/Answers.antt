@@ -1,9 +1,9 @@
 use Rattle.dp_semantics.proofs.Names.{◌≡◌, refl, sym, ap, ◌∙◌, subst, List, take, map, Some, slice_get, slice_set, slice_get-get_or}
 use Rattle.dp_lean_epoch.specs.LeanBatch.{Stood}
 use Rattle.dp_lean_machine.specs.Held.{kinds_in}
-use Rattle.dp_lean_machine.specs.Ready.{CanRead}
+use Rattle.dp_lean_region.specs.Ready.{CanRead}
 use Rattle.dp_lean_machine.specs.Within.{Comes}
-use Rattle.dp_lean_machine.specs.declared.line.ReadyStage.{ReadyStage}
+use Rattle.dp_lean_region.specs.declared.ReadyStage.{ReadyStage}
 use Rattle.dp_lean_machine.specs.declared.batch.StageColumns.{StageColumns}
 use Rattle.dp_lean_machine.proofs.Exchanged.{some_low, kinds_back, take_before}
 use Rattle.dp_lean_machine.proofs.Over.{can_read}
