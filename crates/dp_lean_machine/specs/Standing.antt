@@ -6,8 +6,8 @@ use Rattle.dp_lean_region.specs.LeanEpoch.{LeanEpoch, IsLeanEpoch, marks_in, beg
 use Rattle.dp_lean_machine.specs.Sent.{IsSent}
 use Rattle.dp_lean_machine.specs.declared.batch.LeanBatch.{LeanBatch}
 use Rattle.dp_lean_machine.specs.declared.batch.BatchStatus.TheVariants.{Going}
-use Rattle.dp_lean_machine.specs.declared.machine.Kept.{Kept}
-use Rattle.dp_lean_machine.specs.declared.machine.Kept.TheVariants.{Cells, Versioned, Nothing}
+use Rattle.dp_lean_machine.specs.declared.keeping.Kept.{Kept}
+use Rattle.dp_lean_machine.specs.declared.keeping.Kept.TheVariants.{Cells, Versioned, Nothing}
 use Rattle.dp_lean_machine.specs.declared.machine.LeanMachine.{LeanMachine}
 
 module _ (e : LeanEpoch) where

@@ -21,6 +21,18 @@ pub(crate) struct Desk {
     pub(crate) rooms: Row<ReaderRoom>,
 }
 
+/// These columns take the place of a stage's, which are answered.
+fn exchanged(stages: &mut Row<StageColumns>, place: usize, columns: StageColumns) -> StageColumns
+    requires { place < length stages.old }
+    ensures was { slice_get stages.old place ≡ Some result }
+    ensures now { stages.new ≡ slice_set stages.old place columns }
+{
+    match stages.get_mut(place) {
+        Some(at) => mem::replace(at, columns),
+        None => columns,
+    }
+}
+
 impl Desk {
     /// Nothing. It takes no memory until a turn is run.
     pub(crate) fn new(alloc: Global) -> Result<Desk, NoMemory> {
@@ -44,21 +56,26 @@ impl Desk {
             rooms: Row::new(alloc),
         })
     }
-}
 
-/// These columns take the place of a stage's, which are answered.
-pub(crate) fn exchanged(
-    stages: &mut Row<StageColumns>,
-    place: usize,
-    columns: StageColumns,
-) -> StageColumns
-    requires { place < length stages.old }
-    ensures was { slice_get stages.old place ≡ Some result }
-    ensures now { stages.new ≡ slice_set stages.old place columns }
-{
-    match stages.get_mut(place) {
-        Some(at) => mem::replace(at, columns),
-        None => columns,
+    /// The desk's columns take the place of a stage's, which the desk has then.
+    pub(crate) fn exchanged(self, stages: &mut Row<StageColumns>, place: usize) -> Desk
+        requires { place < length stages.old }
+        ensures was { slice_get stages.old place ≡ Some result.own }
+        ensures now { stages.new ≡ slice_set stages.old place self.own }
+    {
+        let Desk {
+            own,
+            loads,
+            log,
+            rooms,
+        } = self;
+        let own = exchanged(stages, place, own);
+        Desk {
+            own,
+            loads,
+            log,
+            rooms,
+        }
     }
 }
 

@@ -4,8 +4,9 @@ ghost use Rattle.dp_lean_machine.specs.Held.{kinds_in};
 ghost use Rattle.dp_lean_machine.specs.Fresh.{IsFresh};
 ghost use Rattle.dp_lean_machine.specs.declared.batch.BatchStatus.TheVariants as wanting;
 
-use crate::{BatchStatus, LeanBatch, Line, StageColumns};
+use crate::{BatchStatus, LeanBatch, StageColumns};
 use dp_columns::{ColumnKind, Columns};
+use dp_lean_region::Line;
 use dp_room::{NoMemory, Row};
 use std::alloc::Global;
 
@@ -37,7 +38,7 @@ impl<'p> LeanBatch<'p> {
     ) -> Result<LeanBatch<'p>, NoMemory>
         ensures fresh { IfOk result (λ batch. IsFresh line.entry first size batch) }
     {
-        let stages = stage_columns(alloc, line.kinds)?;
+        let stages = stage_columns(alloc, line.kinds())?;
         Ok(LeanBatch {
             line,
             first,
@@ -85,26 +86,5 @@ impl<'p> LeanBatch<'p> {
         let mut batch = self;
         batch.status = BatchStatus::NoMemory;
         batch
-    }
-
-    /// The number of its first iteration.
-    pub fn first(&self) -> u64
-        ensures { result ≡ self.now.first }
-    {
-        self.first
-    }
-
-    /// How many of its iterations came to their end.
-    pub fn iterations(&self) -> usize
-        ensures { result ≡ self.now.iterations }
-    {
-        self.iterations
-    }
-
-    /// How the last of its iterations stands.
-    pub fn status(&self) -> BatchStatus
-        ensures { result ≡ self.now.status }
-    {
-        self.status
     }
 }

@@ -1,29 +1,17 @@
 //! A stage's machine, from one batch to the next.
-ghost use Rattle.std.specs.Prelude.{◌≡◌, ◌<◌, ◌≤◌, suc, length, IfOk};
-ghost use Rattle.dp_plan.specs.Access.{is_replicated};
-ghost use Rattle.dp_lean_machine.specs.Kept.{KeepsBase};
+ghost use Rattle.std.specs.Prelude.{◌≡◌, ◌<◌, ◌≤◌, length, IfOk};
 ghost use Rattle.dp_lean_machine.specs.Sent.{SameTold};
 
 use crate::desk::Desk;
+use crate::keeping::kept_at_base;
 use crate::running::run_batch;
-use crate::{BatchStatus, LeanBatch};
+use crate::{BatchStatus, Kept, LeanBatch};
 use dp_base::{Cells, NoMemory};
 use dp_engine::Versioned;
 use dp_memory::{Version, VersionRoom};
-use dp_plan::{Plan, StageKind};
+use dp_plan::Plan;
 use std::alloc::Global;
 use std::mem;
-
-/// What a stage keeps between two batches.
-#[derive(Drop)]
-pub enum Kept {
-    /// The memory of a stage before a sequential one, or of the last.
-    Cells(Cells),
-    /// The memory of a stage before a replicated one.
-    Versioned(Versioned),
-    /// A replicated stage keeps nothing, and no stage does where memory was wanting.
-    Nothing,
-}
 
 /// A stage's machine. It runs the stage's code on one batch after the other.
 pub struct LeanMachine {
@@ -45,44 +33,6 @@ impl Drop for LeanMachine {
             desk: _,
         } = self;
     }
-}
-
-/// Whether a stage is replicated; stages count from 1.
-fn is_par(plan: &Plan, stage: usize) -> bool
-    ensures { result ≡ is_replicated plan.now stage }
-{
-    if stage == 0 {
-        return false;
-    }
-    match plan.stages.get(stage - 1) {
-        Some(StageKind::Par) => true,
-        Some(StageKind::Seq) | None => false,
-    }
-}
-
-/// Whether the stage behind is replicated.
-fn next_is_par(plan: &Plan, stage: usize) -> bool
-    ensures { result ≡ is_replicated plan.now (suc stage) }
-{
-    match plan.stages.get(stage) {
-        Some(StageKind::Par) => true,
-        Some(StageKind::Seq) | None => false,
-    }
-}
-
-/// What a stage keeps where an epoch begins.
-fn kept_at_base(alloc: Global, plan: &Plan, stage: usize, base: &Cells) -> Result<Kept, NoMemory>
-    ensures { IfOk result (λ k. KeepsBase plan.now stage base.now k) }
-{
-    if is_par(plan, stage) {
-        return Ok(Kept::Nothing);
-    }
-    let cells = base.copy()?;
-    if next_is_par(plan, stage) {
-        let both = Versioned::of(alloc, cells)?;
-        return Ok(Kept::Versioned(both));
-    }
-    Ok(Kept::Cells(cells))
 }
 
 /// Takes the version out of the batch.
@@ -116,7 +66,7 @@ impl LeanMachine {
     ghost use Rattle.dp_net.specs.NetPackets.{NetStatus};
     ghost use Rattle.dp_lean_epoch.specs.Coming.{LeanStands};
     ghost use Rattle.dp_lean_region.specs.LeanEpoch.{LeanEpoch, IsLeanEpoch, marks_in};
-    ghost use Rattle.dp_lean_machine.specs.declared.machine.Kept.TheVariants as kept;
+    ghost use Rattle.dp_lean_machine.specs.declared.keeping.Kept.TheVariants as kept;
     ghost use Rattle.dp_lean_machine.specs.Sent.{AsStatus, IsSent};
     ghost use Rattle.dp_lean_machine.specs.Standing.{StandsAt, Stands, Passes};
 

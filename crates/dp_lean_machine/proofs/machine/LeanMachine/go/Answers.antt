@@ -1,6 +1,6 @@
 use Rattle.dp_semantics.proofs.Names.{sym, subst}
 use Rattle.dp_lean_machine.specs.Standing.{StandsAt}
-use Rattle.dp_lean_machine.specs.declared.machine.Kept.{Kept}
+use Rattle.dp_lean_machine.specs.declared.keeping.Kept.{Kept}
 use Rattle.dp_lean_machine.proofs.machine.LeanMachine.go.Goals as goal
 
 pub returns-in-Cells-clause-sent : goal.returns-in-Cells-clause-sent
