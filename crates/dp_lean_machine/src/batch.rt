@@ -29,6 +29,7 @@ pub enum BatchStatus {
 }
 
 /// A batch of an epoch's iterations. The columns of stages to come mean nothing.
+#[derive(Drop)]
 pub struct LeanBatch<'p> {
     pub(crate) line: Line<'p>,
     /// The number of its first iteration.
@@ -43,21 +44,6 @@ pub struct LeanBatch<'p> {
     /// The room of one that is spent.
     pub(crate) room: Option<VersionRoom>,
     ghost kinds: { map kinds_in stages ≡ line_kinds line },
-}
-
-// By hand, so that a crate above doesn't prove again how all that a batch holds is dropped.
-impl<'p> Drop for LeanBatch<'p> {
-    fn drop(self) {
-        let LeanBatch {
-            line: _,
-            first: _,
-            iterations: _,
-            status: _,
-            stages: _,
-            version: _,
-            room: _,
-        } = self;
-    }
 }
 
 impl<'p> LeanBatch<'p> {

@@ -4,7 +4,7 @@ ghost use Rattle.dp_columns.specs.Columned.{nothing_kept};
 ghost use Rattle.dp_lean_machine.specs.Within.{read_of};
 
 use crate::StageColumns;
-use dp_columns::{ColumnKind, Columns, Reader, ReaderRoom};
+use dp_columns::{Columns, Reader, ReaderRoom};
 use dp_lean_turn::{Loads, Log};
 use dp_room::{NoMemory, Row};
 use std::alloc::Global;
@@ -50,7 +50,6 @@ impl Desk {
             log: Log {
                 running: false,
                 place: 0,
-                kind: ColumnKind::Nothing,
                 stores: Row::new(alloc),
             },
             rooms: Row::new(alloc),

@@ -175,11 +175,12 @@ pub(crate) fn run_batch<'p, M: Memory + Drop>(
         version: _,
         room,
     } = batch;
-    let desk = desk.exchanged(&mut stages, place);
+    let taken = desk.exchanged(&mut stages, place);
     let earlier = &stages.as_slice()[..place];
     let came = Ran { iterations, status };
-    let Done { ran, desk, memory } = run_over(alloc, stage, earlier, desk, memory, came);
-    let desk = desk.exchanged(&mut stages, place);
+    let done = run_over(alloc, stage, earlier, taken, memory, came);
+    let Done { ran, desk, memory } = done;
+    let given = desk.exchanged(&mut stages, place);
     let batch = LeanBatch {
         line,
         first,
@@ -191,7 +192,7 @@ pub(crate) fn run_batch<'p, M: Memory + Drop>(
     };
     Sent {
         batch,
-        desk,
+        desk: given,
         memory,
     }
 }
