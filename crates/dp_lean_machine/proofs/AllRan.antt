@@ -1,5 +1,5 @@
 -- All iterations of a batch at a stage.
-use Rattle.dp_semantics.proofs.Names.{◌≡◌, inl, inr, append-nil, refl, sym, ap, ◌∙◌, subst, arith, ℕ, suc, ◌+◌, ◌-◌, ◌<◌, ◌≤◌, ◌⊎◌, cases_lt, Bool, true, false, List, [], ◌++◌, ℤ, length, map, get_or, get_or_past, append_assoc, slice_get, Some}
+use Rattle.dp_semantics.proofs.Names.{◌≡◌, inl, inr, append-nil, sym, ap, ◌∙◌, subst, arith, ℕ, suc, ◌+◌, ◌<◌, ◌≤◌, ◌⊎◌, cases_lt, true, List, [], ◌++◌, ℤ, length, map, get_or_past, append_assoc, slice_get, Some}
 use Rattle.dp_columns.specs.declared.ColumnKind.{ColumnKind}
 use Rattle.dp_columns.specs.declared.ColumnKind.TheVariants.{Nothing}
 use Rattle.dp_columns.specs.Columned.{Columned}
@@ -7,11 +7,11 @@ use Rattle.dp_lean_turn.specs.declared.Turn.{Turn}
 use Rattle.dp_lean_turn.specs.declared.Frame.{Frame}
 use Rattle.dp_lean_turn.specs.declared.Ready.{Ready}
 use Rattle.dp_lean_turn.specs.Notes.{kind_at}
-use Rattle.dp_lean_turn.specs.Told.{keeps, Grown, GrownLists}
+use Rattle.dp_lean_turn.specs.Told.{keeps, GrownLists}
 use Rattle.dp_lean_turn.specs.Left.{all_kinds}
 use Rattle.dp_lean_turn.specs.Standing.{Keeps}
 use Rattle.dp_lean_turn.specs.Ending.{CanTurn}
-use Rattle.dp_net.specs.NetPackets.{NetStatus, NetGoing, NetClosing, NetVoid}
+use Rattle.dp_net.specs.NetPackets.{NetStatus}
 use Rattle.dp_tree.specs.Numbering.{numbers_from}
 use Rattle.dp_lean_epoch.specs.Own.{own_steps}
 use Rattle.dp_lean_epoch.specs.Coming.{LeanStands}

@@ -1,5 +1,5 @@
 -- Where a stage begins a batch.
-use Rattle.dp_semantics.proofs.Names.{◌≡◌, inr, refl, sym, ap, ◌∙◌, subst, arith, ℕ, suc, ◌+◌, ◌-◌, ◌<◌, List, [], ◌∷◌, ℤ, map, take, Some, slice_get, slice_set, get_or}
+use Rattle.dp_semantics.proofs.Names.{◌≡◌, refl, sym, ap, ◌∙◌, subst, arith, ℕ, suc, ◌+◌, ◌-◌, List, [], ◌∷◌, ℤ, map, take, Some, slice_get, slice_set, get_or}
 use Rattle.dp_columns.specs.declared.ColumnKind.{ColumnKind}
 use Rattle.dp_columns.specs.Columned.{Columned, nothing_kept}
 use Rattle.dp_columns.specs.Left.{Left}
@@ -7,7 +7,6 @@ use Rattle.dp_lean_turn.specs.declared.Turn.{Turn}
 use Rattle.dp_lean_turn.specs.Ending.{CanTurn}
 use Rattle.dp_lean_turn.specs.Left.{AreLeft, all_kinds}
 use Rattle.dp_lean_epoch.specs.Coming.{Coming, LeanStands}
-use Rattle.dp_lean_epoch.specs.LeanBatch.{Stood}
 use Rattle.dp_lean_region.specs.LeanEpoch.{LeanEpoch, marks_in, begin_in}
 use Rattle.dp_lean_region.specs.Line.{RunsIn}
 use Rattle.dp_lean_machine.specs.Held.{kinds_in}

@@ -26,7 +26,7 @@ pub goes_behind : (e : LeanEpoch) (b place : ℕ) {M : Type 0} (cells : M → Li
     IsSent e (suc place) b out × (out.status ≡ Going → LeanStands (marks_in e) e.key (suc place) (begin_in e (suc b)) (cells after))
 goes_behind e b place cells memory after version came out ran ends like is within sequential stands version_is sent =
     let r = ran ends like is within stands version_is came.version sent in
-    (r.0, λ goes. r.1 goes (ap (λ (q : Bool). not q || not (feeds_itself e.key.program e.key.plan (suc place)))) sequential))
+    (r.0, λ goes. r.1 goes (ap (λ (q : Bool). not q || not (feeds_itself e.key.program e.key.plan (suc place))) sequential))
 
 -- a batch that tells the same, with the same version, is sent too
 pub same_sent : (e : LeanEpoch) (s b : ℕ) (x y : LeanBatch) → SameTold x y → y.version ≡ x.version → IsSent e s b x → IsSent e s b y

@@ -1,7 +1,6 @@
 -- What a stage sends of a batch, by what came.
-use Rattle.dp_semantics.proofs.Names.{◌≡◌, refl, sym, ap, ◌∙◌, subst, arith, ℕ, suc, ◌+◌, ◌-◌, ◌<◌, ◌≤◌, true, List, [], ◌∷◌, ◌++◌, ℤ, length, map, map-append, take, Option, Some, get_or, slice_get, slice_set, first_site, stage_of, is_replicated}
+use Rattle.dp_semantics.proofs.Names.{◌≡◌, sym, ap, ◌∙◌, subst, arith, ℕ, suc, ◌-◌, ◌<◌, ◌≤◌, true, List, [], ◌∷◌, ◌++◌, ℤ, length, map, map-append, take, Option, get_or, slice_set, stage_of, is_replicated}
 use Rattle.dp_net.specs.NetPackets.{NetStatus, NetGoing, NetClosing, NetVoid}
-use Rattle.dp_columns.specs.Left.{Left}
 use Rattle.dp_lean.specs.Queues.{Told}
 use Rattle.dp_lean_turn.specs.Notes.{kinds_of, kind_at}
 use Rattle.dp_lean_turn.specs.Told.{keeps}
@@ -12,13 +11,11 @@ use Rattle.dp_lean_epoch.specs.LeanBatch.{Stood, LeanItem, IsLeanBatch, IsVersio
 use Rattle.dp_lean_epoch.specs.LeanBatch as batch
 use Rattle.dp_lean_epoch.specs.Coming.{LeanStands}
 use Rattle.dp_lean_epoch.specs.Steps.{keeps_memory}
-use Rattle.dp_lean_epoch.specs.Laws.{with_columns}
-use Rattle.dp_net.specs.Batches.{batch_at}
 use Rattle.dp_lean_region.specs.LeanEpoch.{LeanEpoch, IsLeanEpoch, marks_in, kept_in, begin_in, size_in}
 use Rattle.dp_lean_machine.specs.Held.{held_in}
 use Rattle.dp_lean_region.specs.Line.{IsLineOf}
 use Rattle.dp_lean_machine.specs.Sent.{Unless, AsStatus, item_of, IsSent}
-use Rattle.dp_lean_machine.specs.Within.{own_kinds, own_kept, read_of, Ended, IsCame, Comes, IsDone}
+use Rattle.dp_lean_machine.specs.Within.{own_kept, read_of, Ended, IsCame, Comes, IsDone}
 use Rattle.dp_lean_machine.specs.declared.batch.BatchStatus.{BatchStatus}
 use Rattle.dp_lean_machine.specs.declared.batch.BatchStatus.TheVariants as status
 use Rattle.dp_lean_machine.specs.declared.batch.StageColumns.{StageColumns}

@@ -1,6 +1,5 @@
 -- Items that are put into columns leave no block that waits for its end.
 use Rattle.dp_semantics.proofs.Names.{◌≡◌, refl, sym, ap, ◌∙◌, ℕ, ◌-◌, Bool, true, false, if◌then◌else◌, List, [], ◌∷◌, map}
-use Rattle.dp_base.specs.declared.Word.{Word}
 use Rattle.dp_semantics.specs.Words.{is_load}
 use Rattle.dp_semantics.specs.EpochKey.{EpochKey}
 use Rattle.dp_net.specs.NetItems.{Marks, Item, Said, Net}

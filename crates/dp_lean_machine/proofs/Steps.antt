@@ -1,5 +1,5 @@
 -- What one more iteration of a batch comes to at a stage.
-use Rattle.dp_semantics.proofs.Names.{◌≡◌, inl, inr, refl, sym, ap, ◌∙◌, subst, arith, ℕ, suc, ◌+◌, ◌-◌, ◌<◌, ◌≤◌, Bool, true, false, ◌⊎◌, cases_lt, List, [], ◌∷◌, ◌++◌, ℤ, length, map, Some, slice_get, sum_by, clear_locals, Program, numbers_from, first_site, stage_of, is_checked, flat_map}
+use Rattle.dp_semantics.proofs.Names.{◌≡◌, inl, inr, refl, sym, ap, ◌∙◌, subst, arith, ℕ, suc, ◌+◌, ◌-◌, ◌<◌, ◌≤◌, Bool, true, false, ◌⊎◌, cases_lt, List, [], ◌∷◌, ◌++◌, ℤ, map, sum_by, clear_locals, Program, numbers_from, flat_map}
 use Rattle.dp_base.specs.declared.CellId.{CellId}
 use Rattle.dp_plan.specs.declared.Plan.{Plan}
 use Rattle.dp_judge.specs.Locals.{clear_cells, local_cells}
@@ -7,14 +7,12 @@ use Rattle.dp_judge.proofs.LocalLemmas.{clear_local_cells}
 use Rattle.dp_net.specs.NetItems.{Item}
 use Rattle.dp_net.specs.NetPackets.{NetClosing, net_status_of}
 use Rattle.dp_lean.specs.Queues.{Told, steps_in}
-use Rattle.dp_lean.specs.Laws.{is_read}
-use Rattle.dp_lean.specs.LeanTurn.{LeanEnd, LeanTurn, Arrived, BrokenOff}
+use Rattle.dp_lean.specs.LeanTurn.{LeanEnd, LeanTurn, Arrived}
 use Rattle.dp_lean_code.specs.declared.LeanOp.{LeanOp}
-use Rattle.dp_lean_code.specs.LeanHeld.{Flat, flat_begin}
+use Rattle.dp_lean_code.specs.LeanHeld.{flat_begin}
 unfoldable use Rattle.dp_lean_code.specs.LeanFlat.{lean_flat}
 use Rattle.dp_columns.specs.declared.ColumnKind.{ColumnKind}
 use Rattle.dp_columns.specs.Columned.{Columned}
-use Rattle.dp_columns.specs.Telling.{put_items}
 use Rattle.dp_columns.specs.Left.{Left}
 use Rattle.dp_lean_turn.specs.declared.Turn.{Turn}
 use Rattle.dp_lean_turn.specs.declared.Turned.{Turned}
@@ -26,15 +24,15 @@ use Rattle.dp_lean_turn.specs.Standing.{IsSettled, Keeps}
 use Rattle.dp_lean_turn.specs.Told.{put_own}
 use Rattle.dp_lean_epoch.specs.Own.{at_stage, Arrives, own_items, own_steps, told_upto}
 use Rattle.dp_lean_epoch.specs.Coming.{Brought, Coming, LeanStands}
-use Rattle.dp_lean_epoch.specs.Holding.{StageColumns, Holds, Grown, filled, HavePlaces}
+use Rattle.dp_lean_epoch.specs.Holding.{StageColumns, Holds, Grown, filled}
 use Rattle.dp_lean_epoch.specs.LeanBatch.{Stood, Stands}
 use Rattle.dp_lean_epoch.specs.Laws.{ColumnsFill}
 use Rattle.dp_lean_epoch.specs.Steps.{keeps_memory, without_locals, ArrivesAs, StepEnds, CodeEnds}
-use Rattle.dp_lean_region.specs.LeanEpoch.{LeanEpoch, marks_in, kept_by, begin_in, size_in}
+use Rattle.dp_lean_region.specs.LeanEpoch.{LeanEpoch, marks_in, begin_in, size_in}
 use Rattle.dp_lean_region.specs.Line.{RunsIn}
-use Rattle.dp_lean_region.specs.Ready.{HasLocals, IsStageReady}
+use Rattle.dp_lean_region.specs.Ready.{HasLocals}
 use Rattle.dp_lean_machine.specs.Settled.{Settled}
-use Rattle.dp_lean_machine.specs.Within.{own_kinds, own_kept, PassesOn, Within, Ended, IsRan, IsCame, Steps}
+use Rattle.dp_lean_machine.specs.Within.{own_kinds, own_kept, PassesOn, Within, Ended, IsCame, Steps}
 use Rattle.dp_lean_region.specs.declared.ReadyStage.{ReadyStage}
 use Rattle.dp_lean_machine.specs.declared.turning.TurnEnd.TheVariants as end_of
 use Rattle.dp_lean_machine.proofs.Settling.{filled_settled}
@@ -55,10 +53,10 @@ module _ (e : LeanEpoch) (s b : ℕ) (came : Stood) (is : IsCame e s b came) (r 
   code_runs memory queues end ends = (
     ends.0,
     ap (λ (p : Program). lean_flat p r.frame.plan.now (marks_in e) r.frame.input.now r.frame.code.now ends.0 (flat_begin memory queues)) runs.program
-    ∙ ap (λ (plan : Plan). lean_flat key.program plan (marks_in e) r.frame.input.now r.frame.code.now ends.0 (flat_begin memory queues)) runs.plan
-    ∙ ap (λ (input : List ℤ). lean_flat key.program key.plan (marks_in e) input r.frame.code.now ends.0 (flat_begin memory queues)) runs.input
-    ∙ ap (λ (code : List LeanOp). lean_flat key.program key.plan (marks_in e) key.input code ends.0 (flat_begin memory queues)) runs.code
-    ∙ ends.1,
+        ∙ ap (λ (plan : Plan). lean_flat key.program plan (marks_in e) r.frame.input.now r.frame.code.now ends.0 (flat_begin memory queues)) runs.plan
+        ∙ ap (λ (input : List ℤ). lean_flat key.program key.plan (marks_in e) input r.frame.code.now ends.0 (flat_begin memory queues)) runs.input
+        ∙ ap (λ (code : List LeanOp). lean_flat key.program key.plan (marks_in e) key.input code ends.0 (flat_begin memory queues)) runs.code
+        ∙ ends.1,
   )
 
   left_in_frame : (readers : List Left) (queues : ℕ → List Told) → AreLeft key.program key.plan readers queues → AreLeft r.frame.program.now r.frame.plan.now readers queues
@@ -201,8 +199,7 @@ module _ (e : LeanEpoch) (s b : ℕ) (came : Stood) (is : IsCame e s b came) (r 
       pub closes : TurnIs cells r.frame old new (turned.Done true count) → Steps e s b cells came j u told end_of.Closes
       closes turns =
           let t = turned_as new (turned.Done true count) turns in
-          let a = done took.0 took.2 t.0 t.1 in
-          (
+          let a = done took.0 took.2 t.0 t.1 in (
             ended (record { iterations = suc j; ends = NetClosing }) refl
                 (closing (marks_in e) key s k (size_in e b) came is.stands j low at.same
                 (a.status ∙ ap (net_status_of (at_stage (marks_in e) key s (k + j)).packet.status) t.2 ∙ closed (at_stage (marks_in e) key s (k + j)).packet.status here)) t.0 a t.4 t.3,

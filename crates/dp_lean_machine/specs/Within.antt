@@ -10,7 +10,7 @@ use Rattle.dp_lean_turn.specs.Left.{AreLeft}
 use Rattle.dp_lean_turn.specs.Notes.{kinds_of}
 use Rattle.dp_lean_epoch.specs.Own.{at_stage, own_steps}
 use Rattle.dp_lean_epoch.specs.Coming.{Coming, LeanStands}
-use Rattle.dp_lean_epoch.specs.Holding.{Kept, StageColumns, Holds, filled}
+use Rattle.dp_lean_epoch.specs.Holding.{Kept, Holds, filled}
 use Rattle.dp_lean_epoch.specs.LeanBatch.{Stood}
 use Rattle.dp_lean_epoch.specs.LeanBatch as batch
 use Rattle.dp_lean_epoch.specs.Steps.{keeps_memory}
@@ -45,8 +45,10 @@ module _ (e : LeanEpoch) (s b : ℕ) where
 
   -- Of n iterations that came the stage has run the first j, and told of them.
   pub record Within {M : Type 0} (cells : M → List ℤ) (n j : ℕ) (t : Turn M) (steps : List ℕ) : Type 0 where
-    pub memory : (keeps_memory e.key.program e.key.plan (suc s) ≡ true) ⊎ (j ≡ 0) → LeanStands (marks_in e) e.key (suc s) (begin_in e b + j) (cells t.memory)
-    pub queues : (queues more : ℕ → List Told) × AreLeft e.key.program e.key.plan t.readers queues × Coming (marks_in e) e.key s (begin_in e b + j) (n - j) queues more
+    pub memory : (keeps_memory e.key.program e.key.plan (suc s) ≡ true) ⊎ (j ≡ 0) →
+        LeanStands (marks_in e) e.key (suc s) (begin_in e b + j) (cells t.memory)
+    pub queues : (queues more : ℕ → List Told) × AreLeft e.key.program e.key.plan t.readers queues
+        × Coming (marks_in e) e.key s (begin_in e b + j) (n - j) queues more
     pub own : t.teller.own ≡ filled (marks_in e) e.key own_kept own_kinds (suc s) (begin_in e b) j
     pub counts : steps ≡ map (own_steps (marks_in e) e.key (suc s)) (numbers_from (begin_in e b) j)
     pub same : (i : ℕ) → i < j → PassesOn i

@@ -11,10 +11,7 @@ use dp_room::{NoMemory, Row};
 use std::alloc::Global;
 
 /// Columns for each of these stages.
-fn stage_columns(
-    alloc: Global,
-    kinds: &[Row<ColumnKind>],
-) -> Result<Row<StageColumns>, NoMemory>
+fn stage_columns(alloc: Global, kinds: &[Row<ColumnKind>]) -> Result<Row<StageColumns>, NoMemory>
     ensures { IfOk result (λ stages. map kinds_in stages ≡ kinds.now) }
 {
     let mut stages = Row::with_capacity(alloc, kinds.len())?;

@@ -107,7 +107,8 @@ impl LeanMachine {
 
     /// The same where memory wasn't wanting.
     fn go<'p>(&mut self, batch: LeanBatch<'p>) -> LeanBatch<'p>
-        ensures sent { (e : LeanEpoch) (b : ℕ) (ends : NetStatus) → AsStatus batch.entry.status ends → Stands self.old e b → IsSent e (self.old.stage - 1) b batch.entry → Passes self.new e b result }
+        ensures sent { (e : LeanEpoch) (b : ℕ) (ends : NetStatus) → AsStatus batch.entry.status ends → Stands self.old e b →
+            IsSent e (self.old.stage - 1) b batch.entry → Passes self.new e b result }
         ensures stage { self.new.stage ≡ self.old.stage }
     {
         let desk = match self.desk.take() {
@@ -123,7 +124,8 @@ impl LeanMachine {
 
     /// By a stage before a sequential one.
     fn from_cells<'p>(&mut self, desk: Desk, cells: Cells, batch: LeanBatch<'p>) -> LeanBatch<'p>
-        ensures sent { (e : LeanEpoch) (b : ℕ) (ends : NetStatus) → AsStatus batch.entry.status ends → StandsAt self.old.stage (kept.Cells cells) e b → IsSent e (self.old.stage - 1) b batch.entry → Passes self.new e b result }
+        ensures sent { (e : LeanEpoch) (b : ℕ) (ends : NetStatus) → AsStatus batch.entry.status ends → StandsAt self.old.stage (kept.Cells cells) e b →
+            IsSent e (self.old.stage - 1) b batch.entry → Passes self.new e b result }
         ensures stage { self.new.stage ≡ self.old.stage }
     {
         let place = self.stage.saturating_sub(1);
@@ -140,7 +142,8 @@ impl LeanMachine {
         both: Versioned,
         batch: LeanBatch<'p>,
     ) -> LeanBatch<'p>
-        ensures sent { (e : LeanEpoch) (b : ℕ) (ends : NetStatus) → AsStatus batch.entry.status ends → StandsAt self.old.stage (kept.Versioned both) e b → IsSent e (self.old.stage - 1) b batch.entry → Passes self.new e b result }
+        ensures sent { (e : LeanEpoch) (b : ℕ) (ends : NetStatus) → AsStatus batch.entry.status ends → StandsAt self.old.stage (kept.Versioned both) e b →
+            IsSent e (self.old.stage - 1) b batch.entry → Passes self.new e b result }
         ensures stage { self.new.stage ≡ self.old.stage }
     {
         let mut batch = batch;
@@ -159,7 +162,8 @@ impl LeanMachine {
 
     /// By a replicated stage, from the version that the batch brings.
     fn from_version<'p>(&mut self, desk: Desk, batch: LeanBatch<'p>) -> LeanBatch<'p>
-        ensures sent { (e : LeanEpoch) (b : ℕ) (ends : NetStatus) → AsStatus batch.entry.status ends → StandsAt self.old.stage kept.Nothing e b → IsSent e (self.old.stage - 1) b batch.entry → Passes self.new e b result }
+        ensures sent { (e : LeanEpoch) (b : ℕ) (ends : NetStatus) → AsStatus batch.entry.status ends → StandsAt self.old.stage kept.Nothing e b →
+            IsSent e (self.old.stage - 1) b batch.entry → Passes self.new e b result }
         ensures stage { self.new.stage ≡ self.old.stage }
     {
         let mut batch = batch;

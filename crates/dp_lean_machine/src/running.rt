@@ -85,8 +85,10 @@ fn run_over<'p, M: Memory + Drop>(
 ) -> Done<M>
     requires can { CanRead stage desk.own.columns.kinds (map kinds_in earlier.now) }
     requires locals { HasLocals stage }
-    ensures done { (e : LeanEpoch) (s b : ℕ) (ends : NetStatus) → AsStatus came.status ends → IsCame e s b (record { iterations = came.iterations; ends = ends }) → RunsIn e s stage.entry →
-        Comes e s b came.iterations earlier.now → LeanStands (marks_in e) e.key (suc s) (begin_in e b) (M.cells memory) → IsDone e s b M.cells result.ran result.desk.own result.memory }
+    ensures done { (e : LeanEpoch) (s b : ℕ) (ends : NetStatus) → AsStatus came.status ends →
+        IsCame e s b (record { iterations = came.iterations; ends = ends }) → RunsIn e s stage.entry →
+        Comes e s b came.iterations earlier.now → LeanStands (marks_in e) e.key (suc s) (begin_in e b) (M.cells memory) →
+        IsDone e s b M.cells result.ran result.desk.own result.memory }
     ensures kinds { result.desk.own.columns.kinds ≡ desk.own.columns.kinds }
 {
     let mut desk = desk;

@@ -38,6 +38,7 @@ pub(crate) enum TurnEnd {
 }
 
 /// These cells read 0.
+#[inline(always)]
 fn clear<M: Memory + Drop>(locals: &[CellId], memory: &mut M) -> Result<(), NoMemory>
     ensures { OnOk result (M.cells memory.new ≡ clear_cells locals.now (M.cells memory.old)) }
 {
@@ -48,6 +49,7 @@ fn clear<M: Memory + Drop>(locals: &[CellId], memory: &mut M) -> Result<(), NoMe
 }
 
 /// The number of a turn's steps is told, and the memory is made ready for the next iteration.
+#[inline(always)]
 fn settle<M: Memory + Drop>(
     locals: &[CellId],
     memory: &mut M,
@@ -62,6 +64,7 @@ fn settle<M: Memory + Drop>(
 }
 
 /// One iteration more.
+#[inline(always)]
 fn turn_once<'c, 'p, M: Memory + Drop>(
     stage: ReadyStage<'p>,
     turn: &mut Turn<'c, M>,
@@ -101,7 +104,8 @@ pub(crate) fn run_all<'c, 'p, M: Memory + Drop>(
 ) -> Ran
     requires can { CanTurn stage.frame stage.ready turn.old }
     requires locals { HasLocals stage }
-    ensures ran { (e : LeanEpoch) (s b : ℕ) (ends : NetStatus) → AsStatus came.status ends → IsCame e s b (record { iterations = came.iterations; ends = ends }) → RunsIn e s stage.entry →
+    ensures ran { (e : LeanEpoch) (s b : ℕ) (ends : NetStatus) → AsStatus came.status ends →
+        IsCame e s b (record { iterations = came.iterations; ends = ends }) → RunsIn e s stage.entry →
         Within e s b M.cells came.iterations 0 turn.old steps.old → IsRan e s b M.cells turn.new steps.new result }
     ensures keeps { Keeps turn.old turn.new }
 {

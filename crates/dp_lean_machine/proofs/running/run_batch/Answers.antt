@@ -20,8 +20,8 @@ run_over-done-requires-clause-can g c =
 pub run_over-done-requires-clause-locals : goal.run_over-done-requires-clause-locals
 run_over-done-requires-clause-locals g c = let ready = c.in-Some.ensures.ready in ready.locals
 
-pub invariant_of-batch : goal.invariant_of-batch
-invariant_of-batch g c = record {
+pub invariant_of-batch-2 : goal.invariant_of-batch-2
+invariant_of-batch-2 g c = record {
   kinds =
       ap (map kinds_in) (c.exchanged-given.ensures.now ∙ ap (λ (xs : List StageColumns). slice_set xs c.args.place c.run_over-done.result.desk.own) c.exchanged-taken.ensures.now)
       ∙ kinds_back c.args.batch.stages c.args.place c.args.desk.own c.run_over-done.result.desk.own c.exchanged-taken.result.own c.exchanged-taken.ensures.was c.run_over-done.ensures.kinds
@@ -42,5 +42,5 @@ returns g c = record {
       refl refl version_is
       (c.run_over-done.ensures.done e c.args.place b ends like (comes_so e is c.args.place b within earlier stood taken item) (c.in-Some.ensures.runs e sent.line)
       (subst (Comes e c.args.place b c.args.batch.iterations) lent (comes_with e is c.args.place b within earlier stood taken item)) stands)
-  );
+      );
 }

@@ -1,4 +1,4 @@
-use Rattle.std.proofs.Common.{◌≡◌, Bool, refl, subst}
+use Rattle.std.proofs.Common.{Bool, refl, subst}
 use Rattle.dp_lean_turn.specs.Ending.{TurnIs}
 use Rattle.dp_lean_turn.specs.declared.Turned.TheVariants as turned
 use Rattle.dp_lean_machine.proofs.Steps.{closes, goes, voids}
