@@ -142,7 +142,8 @@ impl LeanMachine {
         both: Versioned,
         batch: LeanBatch<'p>,
     ) -> LeanBatch<'p>
-        ensures sent { (e : LeanEpoch) (b : ℕ) (ends : NetStatus) → AsStatus batch.entry.status ends → StandsAt self.old.stage (kept.Versioned both) e b →
+        ensures sent { (e : LeanEpoch) (b : ℕ) (ends : NetStatus) → AsStatus batch.entry.status ends →
+            StandsAt self.old.stage (kept.Versioned both) e b →
             IsSent e (self.old.stage - 1) b batch.entry → Passes self.new e b result }
         ensures stage { self.new.stage ≡ self.old.stage }
     {
