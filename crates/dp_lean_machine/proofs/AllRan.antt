@@ -21,7 +21,7 @@ use Rattle.dp_lean_epoch.specs.Laws.{ColumnsFill}
 use Rattle.dp_lean_epoch.specs.Steps.{keeps_memory}
 use Rattle.dp_lean_region.specs.LeanEpoch.{LeanEpoch, marks_in, begin_in, size_in}
 use Rattle.dp_lean_machine.specs.Sent.{AsStatus, Unless}
-use Rattle.dp_lean_machine.specs.Within.{own_kinds, own_kept, Within, Ended, IsRan, IsCame}
+use Rattle.dp_lean_machine.specs.Within.{own_kinds, kept_own, Within, IsHeld, IsRan, IsCame}
 use Rattle.dp_lean_machine.specs.declared.turning.Ran.{Ran}
 use Rattle.dp_lean_machine.specs.declared.batch.BatchStatus.{BatchStatus}
 use Rattle.dp_lean_machine.specs.declared.batch.BatchStatus.TheVariants as status
@@ -36,8 +36,8 @@ kept_place kinds place kept = by (cases_lt place (length kinds))
     by (inr high) = absurd (cc (sym (ap keeps (get_or_past kinds place Nothing high)) ∙ kept))
 
 -- the own columns fill as the law says
-pub own_fill : (e : LeanEpoch) (s b : ℕ) (came : Stood) → IsCame e s b came → ColumnsFill (marks_in e) e.key (own_kept e s b) (own_kinds e s b)
-own_fill e s b came is = is.epoch.laws.fill (own_kept e s b) (own_kinds e s b) (λ y kept. kept_place (own_kinds e s b) (place_of e.key y) kept, is.epoch.places s is.within)
+pub own_fill : (e : LeanEpoch) (s b : ℕ) (came : Stood) → IsCame e s b came → ColumnsFill (marks_in e) e.key (kept_own e s b) (own_kinds e s b)
+own_fill e s b came is = is.epoch.laws.fill (kept_own e s b) (own_kinds e s b) (λ y kept. kept_place (own_kinds e s b) (place_of e.key y) kept, is.epoch.places s is.within)
 
 grown_lists : {X : Type 0} (a b c : List (List X)) → GrownLists a b → GrownLists b c → GrownLists a c
 grown_lists a b c first then_on place queue is =
@@ -82,13 +82,13 @@ all_ran cells e s b came ends like is t counts at = (by came.status like, onward
     stood : NetStatus → Stood
     stood x = record { iterations = came.iterations; ends = x }
 
-    fill : ColumnsFill (marks_in e) e.key (own_kept e s b) (own_kinds e s b)
+    fill : ColumnsFill (marks_in e) e.key (kept_own e s b) (own_kinds e s b)
     fill = own_fill e s b (stood ends) is
 
-    ended : Ended e s b t.teller.own counts (stood ends)
+    ended : IsHeld e s b t.teller.own counts (stood ends)
     ended = record {
       stands = alike (marks_in e) e.key s (begin_in e b) (size_in e b) (stood ends) is.stands is.epoch.laws.voids at.same;
-      holds = subst (Holds (marks_in e) e.key (own_kept e s b) (suc s) (begin_in e b) came.iterations)
+      holds = subst (Holds (marks_in e) e.key (kept_own e s b) (suc s) (begin_in e b) came.iterations)
           all (fill.holds (suc s) (begin_in e b) came.iterations (omega arith));
     }
       where
@@ -98,13 +98,13 @@ all_ran cells e s b came ends like is t counts at = (by came.status like, onward
         told : List ℕ
         told = map (own_steps (marks_in e) e.key (suc s)) (numbers_from (begin_in e b) came.iterations)
 
-        all : held (filled (marks_in e) e.key (own_kept e s b) (own_kinds e s b) (suc s) (begin_in e b) came.iterations) told ≡ held t.teller.own counts
+        all : held (filled (marks_in e) e.key (kept_own e s b) (own_kinds e s b) (suc s) (begin_in e b) came.iterations) told ≡ held t.teller.own counts
         all = ap (λ (c : Columned). held c told) (sym at.own) ∙ ap (held t.teller.own) (sym at.counts)
 
-    by : (x : BatchStatus) → AsStatus x ends → Unless x (λ (o : NetStatus). Ended e s b t.teller.own counts (stood o))
-    by status.Going q = subst (λ (o : NetStatus). Ended e s b t.teller.own counts (stood o)) q ended
-    by status.Closing q = subst (λ (o : NetStatus). Ended e s b t.teller.own counts (stood o)) q ended
-    by status.Void q = subst (λ (o : NetStatus). Ended e s b t.teller.own counts (stood o)) q ended
+    by : (x : BatchStatus) → AsStatus x ends → Unless x (λ (o : NetStatus). IsHeld e s b t.teller.own counts (stood o))
+    by status.Going q = subst (λ (o : NetStatus). IsHeld e s b t.teller.own counts (stood o)) q ended
+    by status.Closing q = subst (λ (o : NetStatus). IsHeld e s b t.teller.own counts (stood o)) q ended
+    by status.Void q = subst (λ (o : NetStatus). IsHeld e s b t.teller.own counts (stood o)) q ended
     by status.NoMemory q = tt
 
     onward : came.status ≡ status.Going → keeps_memory e.key.program e.key.plan (suc s) ≡ true → LeanStands (marks_in e) e.key (suc s) (begin_in e b + size_in e b) (cells t.memory)

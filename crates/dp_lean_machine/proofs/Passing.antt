@@ -8,8 +8,8 @@ use Rattle.dp_lean_region.specs.LeanEpoch.{LeanEpoch, IsLeanEpoch, marks_in, kep
 use Rattle.dp_lean_machine.specs.Sent.{AsStatus, IsSent, SameTold, Unless, item_of}
 use Rattle.dp_lean_machine.specs.Kept.{KeepsBase}
 use Rattle.dp_lean_machine.specs.Standing.{Keeps}
-use Rattle.dp_lean_machine.specs.declared.keeping.Kept.{Kept}
-use Rattle.dp_lean_machine.specs.declared.keeping.Kept.TheVariants.{Cells, Versioned, Nothing}
+use Rattle.dp_lean_machine.specs.declared.machine.Kept.{Kept}
+use Rattle.dp_lean_machine.specs.declared.machine.Kept.TheVariants.{Cells, Versioned, Nothing}
 use Rattle.dp_lean_machine.specs.RanFrom.{RanFrom}
 use Rattle.dp_lean_machine.specs.declared.batch.LeanBatch.{LeanBatch}
 use Rattle.dp_lean_region.specs.Line.{IsLineOf}

@@ -32,13 +32,13 @@ use Rattle.dp_lean_region.specs.LeanEpoch.{LeanEpoch, marks_in, begin_in, size_i
 use Rattle.dp_lean_region.specs.Line.{RunsIn}
 use Rattle.dp_lean_region.specs.Ready.{HasLocals}
 use Rattle.dp_lean_machine.specs.Settled.{Settled}
-use Rattle.dp_lean_machine.specs.Within.{own_kinds, own_kept, PassesOn, Within, Ended, IsCame, Steps}
+use Rattle.dp_lean_machine.specs.Within.{own_kinds, kept_own, PassesOn, Within, IsHeld, IsCame, ComesTo}
 use Rattle.dp_lean_region.specs.declared.ReadyStage.{ReadyStage}
 use Rattle.dp_lean_machine.specs.declared.turning.TurnEnd.TheVariants as end_of
 use Rattle.dp_lean_machine.proofs.Settling.{filled_settled}
 use Rattle.dp_lean_machine.proofs.Statuses.{still, closed, arrives, closing, voided}
 
-module _ (e : LeanEpoch) (s b : ℕ) (came : Stood) (is : IsCame e s b came) (r : ReadyStage) (runs : RunsIn e s r) (fill : ColumnsFill (marks_in e) e.key (own_kept e s b) (own_kinds e s b)) where
+module _ (e : LeanEpoch) (s b : ℕ) (came : Stood) (is : IsCame e s b came) (r : ReadyStage) (runs : RunsIn e s r) (fill : ColumnsFill (marks_in e) e.key (kept_own e s b) (own_kinds e s b)) where
   open e use {key}
 
   abbrev k : ℕ
@@ -104,14 +104,14 @@ module _ (e : LeanEpoch) (s b : ℕ) (came : Stood) (is : IsCame e s b came) (r 
     took = is.epoch.laws.steps s (k + j) is.within here (cells old.memory) memory_stands queues rest brought
 
     none_waits : IsSettled old.teller.own
-    none_waits = subst IsSettled (sym at.own) (filled_settled (marks_in e) key (own_kept e s b) (own_kinds e s b) (suc s) k j)
+    none_waits = subst IsSettled (sym at.own) (filled_settled (marks_in e) key (kept_own e s b) (own_kinds e s b) (suc s) k j)
 
     turned_as : (new : Turn M) (result : Turned) → TurnIs cells r.frame old new result → AsTurned cells r.frame (marks_in e) old.teller.own took.0 new result
     turned_as new result turns = turns (marks_in e) queues took.0 none_waits runs.hidden (left_in_frame old.readers queues at.queues.2) (code_runs (cells old.memory) queues took.0 took.1)
 
     -- the stage's own items are put into its columns
     filled_more : (new : Turn M) (f : LeanTurn) → ArrivesAs (marks_in e) key s (k + j) rest f → Leaves r.frame (marks_in e) old.teller.own cells new f →
-        new.teller.own ≡ filled (marks_in e) key (own_kept e s b) (own_kinds e s b) (suc s) k (suc j)
+        new.teller.own ≡ filled (marks_in e) key (kept_own e s b) (own_kinds e s b) (suc s) k (suc j)
     filled_more new f a l =
         l.own
         ∙ ap (λ (p : Program). put_own p r.frame.plan.now r.frame.kinds.own.now f.turn.own old.teller.own) runs.program
@@ -174,29 +174,29 @@ module _ (e : LeanEpoch) (s b : ℕ) (came : Stood) (is : IsCame e s b came) (r 
                   (a.status ∙ ap (net_status_of (at_stage (marks_in e) key s (k + j)).packet.status) closing ∙ still (at_stage (marks_in e) key s (k + j)).packet.status)
 
       ended : (x : Stood) → x.iterations ≡ suc j → Stands (marks_in e) key (suc s) k (size_in e b) x → (f : LeanTurn) → ArrivesAs (marks_in e) key s (k + j) rest f →
-          Leaves r.frame (marks_in e) old.teller.own cells new f → sum_by steps_in f.turn.own ≡ count → Ended e s b u.teller.own told x
+          Leaves r.frame (marks_in e) old.teller.own cells new f → sum_by steps_in f.turn.own ≡ count → IsHeld e s b u.teller.own told x
       ended x many stands f a l sum = record {
         stands = stands;
-        holds = subst (λ (i : ℕ). Holds (marks_in e) key (own_kept e s b) (suc s) k i (record { columns = u.teller.own; steps = told })) (sym many)
-            (subst (Holds (marks_in e) key (own_kept e s b) (suc s) k (suc j)) (sym all) (fill.holds (suc s) k (suc j) (omega arith)));
+        holds = subst (λ (i : ℕ). Holds (marks_in e) key (kept_own e s b) (suc s) k i (record { columns = u.teller.own; steps = told })) (sym many)
+            (subst (Holds (marks_in e) key (kept_own e s b) (suc s) k (suc j)) (sym all) (fill.holds (suc s) k (suc j) (omega arith)));
       }
         where
           held : Columned → List ℕ → StageColumns
           held columns steps = record { columns = columns; steps = steps }
 
-          all : held u.teller.own told ≡ held (filled (marks_in e) key (own_kept e s b) (own_kinds e s b) (suc s) k (suc j)) (map (own_steps (marks_in e) key (suc s)) (numbers_from k (suc j)))
+          all : held u.teller.own told ≡ held (filled (marks_in e) key (kept_own e s b) (own_kinds e s b) (suc s) k (suc j)) (map (own_steps (marks_in e) key (suc s)) (numbers_from k (suc j)))
           all = ap (λ (c : Columned). held c told) (settled.own ∙ filled_more new f a l)
-              ∙ ap (held (filled (marks_in e) key (own_kept e s b) (own_kinds e s b) (suc s) k (suc j))) (counted new f count a sum told settled.more)
+              ∙ ap (held (filled (marks_in e) key (kept_own e s b) (own_kinds e s b) (suc s) k (suc j))) (counted new f count a sum told settled.more)
 
       done : (end : LeanEnd) → StepEnds (marks_in e) key s (k + j) rest end → (f : LeanTurn) → end ≡ Arrived f → ArrivesAs (marks_in e) key s (k + j) rest f
       done end ends f same = subst (StepEnds (marks_in e) key s (k + j) rest) same ends
 
-      pub goes : TurnIs cells r.frame old new (turned.Done false count) → Steps e s b cells came j u told end_of.Goes
+      pub goes : TurnIs cells r.frame old new (turned.Done false count) → ComesTo e s b cells came j u told end_of.Goes
       goes turns =
           let t = turned_as new (turned.Done false count) turns in
           behind t.0 (done took.0 took.2 t.0 t.1) t.4 t.3 t.2
 
-      pub closes : TurnIs cells r.frame old new (turned.Done true count) → Steps e s b cells came j u told end_of.Closes
+      pub closes : TurnIs cells r.frame old new (turned.Done true count) → ComesTo e s b cells came j u told end_of.Closes
       closes turns =
           let t = turned_as new (turned.Done true count) turns in
           let a = done took.0 took.2 t.0 t.1 in (
@@ -207,13 +207,13 @@ module _ (e : LeanEpoch) (s b : ℕ) (came : Stood) (is : IsCame e s b came) (r 
           )
 
     -- a turn that broke off told something behind what was told before
-    pub voids : (new : Turn M) → Keeps old new → TurnIs cells r.frame old new turned.Void → Steps e s b cells came j new counts end_of.Void
+    pub voids : (new : Turn M) → Keeps old new → TurnIs cells r.frame old new turned.Void → ComesTo e s b cells came j new counts end_of.Void
     voids new keeps turns = (
       record {
         stands = voided (marks_in e) key s k (size_in e b) came is.stands j low at.same
             (subst (StepEnds (marks_in e) key s (k + j) rest) (turned_as new turned.Void turns) took.2);
-        holds = fill.grown (suc s) k j (record { columns = filled (marks_in e) key (own_kept e s b) (own_kinds e s b) (suc s) k j; steps = counts }) (record { columns = new.teller.own; steps = counts })
-            (subst (λ (is : List ℕ). Holds (marks_in e) key (own_kept e s b) (suc s) k j (record { columns = filled (marks_in e) key (own_kept e s b) (own_kinds e s b) (suc s) k j; steps = is }))
+        holds = fill.grown (suc s) k j (record { columns = filled (marks_in e) key (kept_own e s b) (own_kinds e s b) (suc s) k j; steps = counts }) (record { columns = new.teller.own; steps = counts })
+            (subst (λ (is : List ℕ). Holds (marks_in e) key (kept_own e s b) (suc s) k j (record { columns = filled (marks_in e) key (kept_own e s b) (own_kinds e s b) (suc s) k j; steps = is }))
             (sym at.counts) (fill.holds (suc s) k j (omega arith)))
             (subst (λ (c : Columned). Grown c new.teller.own) at.own grown)
             refl;

@@ -2,8 +2,8 @@
 use Rattle.std.specs.Prelude.{◌≡◌, ℕ, suc, true, false, List, ℤ}
 use Rattle.dp_plan.specs.declared.Plan.{Plan}
 use Rattle.dp_plan.specs.Access.{is_replicated}
-use Rattle.dp_lean_machine.specs.declared.keeping.Kept.{Kept}
-use Rattle.dp_lean_machine.specs.declared.keeping.Kept.TheVariants.{Cells, Versioned, Nothing}
+use Rattle.dp_lean_machine.specs.declared.machine.Kept.{Kept}
+use Rattle.dp_lean_machine.specs.declared.machine.Kept.TheVariants.{Cells, Versioned, Nothing}
 
 -- A sequential stage keeps the base, with a version where a replicated stage follows. A replicated one keeps nothing.
 abbrev pub KeepsBase : Plan → ℕ → List ℤ → Kept → Type 0

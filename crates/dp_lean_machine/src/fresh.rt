@@ -34,6 +34,8 @@ impl<'p> LeanBatch<'p> {
         size: usize,
     ) -> Result<LeanBatch<'p>, NoMemory>
         ensures fresh { IfOk result (λ batch. IsFresh line.entry first size batch) }
+        ensures line { IfOk result (λ batch. batch.line ≡ line.entry) }
+        ensures first { IfOk result (λ batch. batch.first ≡ first) }
     {
         let stages = stage_columns(alloc, line.kinds())?;
         Ok(LeanBatch {
@@ -51,6 +53,7 @@ impl<'p> LeanBatch<'p> {
     pub fn renew(self, first: u64, size: usize) -> LeanBatch<'p>
         ensures fresh { IsFresh self.entry.line first size result }
         ensures line { result.line ≡ self.entry.line }
+        ensures first { result.first ≡ first }
     {
         let LeanBatch {
             line,

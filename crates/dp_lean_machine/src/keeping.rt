@@ -1,23 +1,13 @@
-//! What a stage keeps between two batches.
+//! What a stage keeps where an epoch begins.
 ghost use Rattle.std.specs.Prelude.{◌≡◌, suc, IfOk};
 ghost use Rattle.dp_plan.specs.Access.{is_replicated};
 ghost use Rattle.dp_lean_machine.specs.Kept.{KeepsBase};
 
+use crate::Kept;
 use dp_base::{Cells, NoMemory};
 use dp_engine::Versioned;
 use dp_plan::{Plan, StageKind};
 use std::alloc::Global;
-
-/// What a stage keeps between two batches.
-#[derive(Drop)]
-pub enum Kept {
-    /// The memory of a stage before a sequential one, or of the last.
-    Cells(Cells),
-    /// The memory of a stage before a replicated one.
-    Versioned(Versioned),
-    /// A replicated stage keeps nothing, and no stage does where memory was wanting.
-    Nothing,
-}
 
 /// Whether a stage is replicated; stages count from 1.
 fn is_par(plan: &Plan, stage: usize) -> bool

@@ -12,5 +12,4 @@ mod running;
 mod turning;
 
 pub use batch::{BatchStatus, LeanBatch, StageColumns};
-pub use keeping::Kept;
-pub use machine::LeanMachine;
+pub use machine::{Kept, LeanMachine};

@@ -5,13 +5,24 @@ ghost use Rattle.dp_lean_machine.specs.Sent.{SameTold};
 use crate::desk::Desk;
 use crate::keeping::kept_at_base;
 use crate::running::run_batch;
-use crate::{BatchStatus, Kept, LeanBatch};
+use crate::{BatchStatus, LeanBatch};
 use dp_base::{Cells, NoMemory};
 use dp_engine::Versioned;
 use dp_memory::{Version, VersionRoom};
 use dp_plan::Plan;
 use std::alloc::Global;
 use std::mem;
+
+/// What a stage keeps between two batches.
+#[derive(Drop)]
+pub enum Kept {
+    /// The memory of a stage before a sequential one, or of the last.
+    Cells(Cells),
+    /// The memory of a stage before a replicated one.
+    Versioned(Versioned),
+    /// A replicated stage keeps nothing, and no stage does where memory was wanting.
+    Nothing,
+}
 
 /// A stage's machine. It runs the stage's code on one batch after the other.
 pub struct LeanMachine {
@@ -66,9 +77,9 @@ impl LeanMachine {
     ghost use Rattle.dp_net.specs.NetPackets.{NetStatus};
     ghost use Rattle.dp_lean_epoch.specs.Coming.{LeanStands};
     ghost use Rattle.dp_lean_region.specs.LeanEpoch.{LeanEpoch, IsLeanEpoch, marks_in};
-    ghost use Rattle.dp_lean_machine.specs.declared.keeping.Kept.TheVariants as kept;
+    ghost use Rattle.dp_lean_machine.specs.declared.machine.Kept.TheVariants as kept;
     ghost use Rattle.dp_lean_machine.specs.Sent.{AsStatus, IsSent};
-    ghost use Rattle.dp_lean_machine.specs.Standing.{StandsAt, Stands, Passes};
+    ghost use Rattle.dp_lean_machine.specs.Standing.{TakesNext, Stands, Passes};
 
     /// The machine of a stage where an epoch begins.
     pub fn new(
@@ -124,7 +135,7 @@ impl LeanMachine {
 
     /// By a stage before a sequential one.
     fn from_cells<'p>(&mut self, desk: Desk, cells: Cells, batch: LeanBatch<'p>) -> LeanBatch<'p>
-        ensures sent { (e : LeanEpoch) (b : ℕ) (ends : NetStatus) → AsStatus batch.entry.status ends → StandsAt self.old.stage (kept.Cells cells) e b →
+        ensures sent { (e : LeanEpoch) (b : ℕ) (ends : NetStatus) → AsStatus batch.entry.status ends → TakesNext self.old.stage (kept.Cells cells) e b →
             IsSent e (self.old.stage - 1) b batch.entry → Passes self.new e b result }
         ensures stage { self.new.stage ≡ self.old.stage }
     {
@@ -143,7 +154,7 @@ impl LeanMachine {
         batch: LeanBatch<'p>,
     ) -> LeanBatch<'p>
         ensures sent { (e : LeanEpoch) (b : ℕ) (ends : NetStatus) → AsStatus batch.entry.status ends →
-            StandsAt self.old.stage (kept.Versioned both) e b →
+            TakesNext self.old.stage (kept.Versioned both) e b →
             IsSent e (self.old.stage - 1) b batch.entry → Passes self.new e b result }
         ensures stage { self.new.stage ≡ self.old.stage }
     {
@@ -163,7 +174,7 @@ impl LeanMachine {
 
     /// By a replicated stage, from the version that the batch brings.
     fn from_version<'p>(&mut self, desk: Desk, batch: LeanBatch<'p>) -> LeanBatch<'p>
-        ensures sent { (e : LeanEpoch) (b : ℕ) (ends : NetStatus) → AsStatus batch.entry.status ends → StandsAt self.old.stage kept.Nothing e b →
+        ensures sent { (e : LeanEpoch) (b : ℕ) (ends : NetStatus) → AsStatus batch.entry.status ends → TakesNext self.old.stage kept.Nothing e b →
             IsSent e (self.old.stage - 1) b batch.entry → Passes self.new e b result }
         ensures stage { self.new.stage ≡ self.old.stage }
     {

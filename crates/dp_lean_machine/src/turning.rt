@@ -10,7 +10,7 @@ ghost use Rattle.dp_net.specs.NetPackets.{NetStatus};
 ghost use Rattle.dp_lean_region.specs.Line.{RunsIn};
 ghost use Rattle.dp_lean_machine.specs.Sent.{AsStatus};
 ghost use Rattle.dp_lean_region.specs.Ready.{HasLocals};
-ghost use Rattle.dp_lean_machine.specs.Within.{IsCame, Within, Steps, IsRan};
+ghost use Rattle.dp_lean_machine.specs.Within.{IsCame, Within, ComesTo, IsRan};
 
 use crate::BatchStatus;
 use dp_base::{CellId, NoMemory, Row};
@@ -73,7 +73,7 @@ fn turn_once<'c, 'p, M: Memory + Drop>(
     requires can { CanTurn stage.frame stage.ready turn.old }
     requires locals { HasLocals stage }
     ensures steps { (e : LeanEpoch) (s b j : ℕ) (came : Stood) → IsCame e s b came → RunsIn e s stage.entry → j < came.iterations →
-        Within e s b M.cells came.iterations j turn.old steps.old → Steps e s b M.cells came j turn.new steps.new result }
+        Within e s b M.cells came.iterations j turn.old steps.old → ComesTo e s b M.cells came j turn.new steps.new result }
     ensures keeps { Keeps turn.old turn.new }
 {
     match turn.turn(stage.frame, &stage.ready) {
