@@ -37,10 +37,10 @@ pub record RunsIn (e : LeanEpoch) (at : ℕ) (r : ReadyStage) : Type 0 where
   pub hidden : AreHidden r.frame (marks_in e)
 
 -- The epoch is one of the pipeline of this program and plan, with this input.
-pub record IsEpochOf (e : LeanEpoch) (p : Program) (plan : Plan) (input : List ℤ) : Type 0 where
+pub record IsEpochOf (e : LeanEpoch) (p : Program) (under : Plan) (words : List ℤ) : Type 0 where
   pub program : p ≡ e.key.program
-  pub plan : plan ≡ e.key.plan
-  pub input : input ≡ e.key.input
+  pub plan : under ≡ e.key.plan
+  pub input : words ≡ e.key.input
   pub pays : e.pays ≡ pays_off e.key.program e.key.plan
   pub kinds : e.kinds ≡ plan_kinds e.key.program e.key.plan
 

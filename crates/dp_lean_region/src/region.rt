@@ -111,6 +111,7 @@ impl<'p> RegionTables<'p> {
         ensures runs { (e : LeanEpoch) → IsEpochOf e self.now.program self.now.plan input.now → IfSome result (RunsIn e place) }
         ensures absent { IfNone result (length self.now.plan.stages ≤ place) }
     {
+        let _cap = self.cap;
         None
     }
 
@@ -118,6 +119,7 @@ impl<'p> RegionTables<'p> {
     pub(crate) fn kinds(&self) -> &[Row<ColumnKind>]
         ensures { result.now ≡ plan_kinds self.now.program self.now.plan }
     {
+        let _cap = self.cap;
         &[]
     }
 

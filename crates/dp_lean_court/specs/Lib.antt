@@ -1,0 +1,5 @@
+pub mod Decided
+pub mod Verdicts
+pub mod Judging
+pub mod Within
+pub mod Deciding
