@@ -112,10 +112,10 @@ module _ (e : LeanEpoch) (b : ℕ) (court : LeanCourt) (at : Judges court e b) w
     as_left = left_so x.status sent.item
 
     item_by : (s : BatchStatus) (ends : NetStatus) → AsStatus s ends → Unless s Item → Item ends
-    item_by status.Going ends as item = subst Item (sym as) item
-    item_by status.Closing ends as item = subst Item (sym as) item
-    item_by status.Void ends as item = subst Item (sym as) item
-    item_by status.NoMemory ends as item = absurd as
+    item_by status.Going ends like item = subst Item (sym like) item
+    item_by status.Closing ends like item = subst Item (sym like) item
+    item_by status.Void ends like item = subst Item (sym like) item
+    item_by status.NoMemory ends like item = absurd like
 
     stages_many : length x.stages ≡ all
     stages_many =
@@ -126,9 +126,9 @@ module _ (e : LeanEpoch) (b : ℕ) (court : LeanCourt) (at : Judges court e b) w
     stages_whole : take all x.stages ≡ x.stages
     stages_whole = take_whole x.stages all stages_many
 
-    module _ (ends : NetStatus) (as : AsStatus x.status ends) where
+    module _ (ends : NetStatus) (like : AsStatus x.status ends) where
       item : Item ends
-      item = item_by x.status ends as sent.item
+      item = item_by x.status ends like sent.item
 
       come : QueuesCome (marks_in e) e.key (kept_in e) e.cap all b (item_of all ends x)
       come = at.epoch.laws.come at.epoch.enough e.cap all b (item_of all ends x) item

@@ -28,7 +28,7 @@ module _ (locals : List CellId) (after : ℕ) (old new : Bench) (told_old told_n
   committed false is = (refl, is)
 
   pub opened_if : (closing : Bool) (d : Decision) → Commits locals after closing old new told_old told_new d → d ≡ Goes → IsOpen told_new
-  opened_if closing Goes is same = is.1.open
+  opened_if closing Goes is same = is.1.ungiven
   opened_if closing Closes is same = absurd (cc same)
   opened_if closing Unclean is same = absurd is
   opened_if closing NoMemory is same = absurd (cc same)

@@ -30,7 +30,7 @@ module _ (e : LeanEpoch) (b n : ℕ) where
   module _ (left : ℕ) (cells : List ℤ) (told : List Verdict) where
     -- all that is to be told, and where the judging stands then
     pub record Concludes (s : BatchStatus) (end : ToldEnd) : Type 0 where
-      pub told : IsTold e b (told ++ ending end)
+      pub verdicts : IsTold e b (told ++ ending end)
       pub stands : Stands e (begin_in e b + length told) left cells
       pub next : s ≡ status.Going → all_go_on (told ++ ending end) → (length (told ++ ending end) ≡ size_in e b) × GoesOnTo e.key (begin_in e b + size_in e b)
           × Stands e (begin_in e b + size_in e b) left cells
@@ -49,21 +49,21 @@ module _ (e : LeanEpoch) (b n : ℕ) where
     unclean : (s : BatchStatus) (place : ℕ) → CleanTo e b place left cells told → (cause : Cause) × (Again cause ≡ verdict_at e.key (begin_in e b + place)) →
         Concludes s ends.Unclean
     unclean s place clean again = record {
-      told = with_last place clean Unclean again;
+      verdicts = with_last place clean Unclean again;
       stands = stands_then place clean;
       next = λ goes all. (let no : false ≡ true = all (length told) Unclean (last_there told Unclean) in absurd (cc no));
     }
 
     wanting : (s : BatchStatus) (place : ℕ) → CleanTo e b place left cells told → Concludes s ends.NoMemory
     wanting s place clean = record {
-      told = with_last place clean NoMemory tt;
+      verdicts = with_last place clean NoMemory tt;
       stands = stands_then place clean;
       next = λ goes all. (let no : false ≡ true = all (length told) NoMemory (last_there told NoMemory) in absurd (cc no));
     }
 
     over : (s : BatchStatus) → (s ≡ status.Going → n ≡ size_in e b) → CleanTo e b n left cells told → Concludes s ends.Over
     over s whole clean = record {
-      told = subst (IsTold e b) (sym (append-nil told)) clean.told;
+      verdicts = subst (IsTold e b) (sym (append-nil told)) clean.told;
       stands = stands_then n clean;
       next = λ goes all. (
         ap length (append-nil told) ∙ clean.count ∙ whole goes,
@@ -78,7 +78,7 @@ module _ (e : LeanEpoch) (b n : ℕ) where
     concludes status.Void again decision.Goes came = unclean status.Void n came (again came.goes)
     concludes status.NoMemory rest decision.Goes came = wanting status.NoMemory n came
     concludes s rest decision.Closes came = record {
-      told = subst (IsTold e b) (sym (append-nil told)) came.told;
+      verdicts = subst (IsTold e b) (sym (append-nil told)) came.told;
       stands = came.stands;
       next = λ goes all. absurd (came.closes (subst all_go_on (append-nil told) all));
     }

@@ -1,22 +1,24 @@
 -- The clean iterations that weren't given yet.
-use Rattle.std.proofs.Common.{◌≡◌, refl, sym, ap, ◌∙◌, arith, ℕ, suc, ◌+◌, ◌<◌, ◌≤◌, Bool, List, [], ◌∷◌, ◌++◌, ℤ, length, take, drop, sum_by, min, Some, slice_get, drop-drop}
+use Rattle.std.proofs.Common.{◌≡◌, refl, sym, ap, ◌∙◌, arith, ℕ, zero, suc, ◌+◌, ◌<◌, ◌≤◌, Bool, List, [], ◌∷◌, ◌++◌, ℤ, length, take, drop, sum_by, min, Some, slice_get, drop-drop, inl, inr, nat_le, le-leb, leb-true}
 use Rattle.std.proofs.lemmas.List.{take-append-le, drop-append-le, append-nil, length-drop}
-use Rattle.std.proofs.Math.Seq.{take-length}
+use Rattle.std.proofs.lemmas.List.Sums.{sum_by-cons}
+use Rattle.std.proofs.lemmas.Bool.{cases_Bool, cases_lt}
+use Rattle.std.proofs.Math.Seq.{take-length, drop-length}
 use Rattle.std.proofs.Math.ListN.{drop_of_length-le}
 use Rattle.dp_base.specs.declared.StoreOf.{StoreOf}
 use Rattle.dp_judge.specs.declared.verdict.Verdict.{Verdict}
 use Rattle.dp_judge.specs.declared.verdict.Verdict.TheVariants.{Clean}
 use Rattle.dp_columns.proofs.Places.{rest_at}
-use Rattle.dp_lean_court.specs.Decided.{cleans, cleans_from, IsOpen}
+use Rattle.dp_lean_court.specs.Decided.{cleans, cleans_from, ending, left_to_give, IsOpen}
 use Rattle.dp_lean_court.specs.declared.told.Part.{Part}
 use Rattle.dp_lean_court.specs.declared.told.ToldBatch.{ToldBatch}
 
 -- where none was given, all are left
 pub open_cleans : (t : ToldBatch) → IsOpen t → cleans t ≡ cleans_from t.parts t.stores t.prints
-open_cleans t open =
-    ap (λ (n : ℕ). cleans_from (drop n t.parts) (drop t.stores_given t.stores) (drop t.prints_given t.prints)) open.given
-    ∙ ap (λ (n : ℕ). cleans_from t.parts (drop n t.stores) (drop t.prints_given t.prints)) open.stores_given
-    ∙ ap (λ (n : ℕ). cleans_from t.parts t.stores (drop n t.prints)) open.prints_given
+open_cleans t whole =
+    ap (λ (n : ℕ). cleans_from (drop n t.parts) (drop t.stores_given t.stores) (drop t.prints_given t.prints)) whole.given
+    ∙ ap (λ (n : ℕ). cleans_from t.parts (drop n t.stores) (drop t.prints_given t.prints)) whole.stores_given
+    ∙ ap (λ (n : ℕ). cleans_from t.parts t.stores (drop n t.prints)) whole.prints_given
 
 -- so many are the parts' of stores, and of prints
 abbrev stores_of : List Part → ℕ
@@ -44,8 +46,10 @@ pub front_cleans : (parts : List Part) (stores more : List StoreOf) (prints othe
     cleans_from parts (stores ++ more) (prints ++ others) ≡ cleans_from parts stores prints
 front_cleans [] stores more prints others all all_prints = refl
 front_cleans (p ∷ rest) stores more prints others all all_prints =
-    let low = front_low StoreOf p.stores (stores_of rest) stores all in
-    let low_prints = front_low ℤ p.prints (prints_of rest) prints all_prints in
+    let first = sym (sum_by-cons (λ (q : Part). q.stores) p rest) ∙ all in
+    let first_prints = sym (sum_by-cons (λ (q : Part). q.prints) p rest) ∙ all_prints in
+    let low = front_low StoreOf p.stores (stores_of rest) stores first in
+    let low_prints = front_low ℤ p.prints (prints_of rest) prints first_prints in
     let own = take-append-le p.stores stores more low in
     let own_prints = take-append-le p.prints prints others low_prints in
     let behind = drop-append-le p.stores stores more low in
@@ -53,7 +57,7 @@ front_cleans (p ∷ rest) stores more prints others all all_prints =
     (λ i. part p (own i) (own_prints i) ∷ cleans_from rest (behind i) (behind_prints i))
     ∙ ap (λ (vs : List Verdict). part p (take p.stores stores) (take p.prints prints) ∷ vs)
     (front_cleans rest (drop p.stores stores) more (drop p.prints prints) others
-      (front_left StoreOf p.stores (stores_of rest) stores all) (front_left ℤ p.prints (prints_of rest) prints all_prints))
+      (front_left StoreOf p.stores (stores_of rest) stores first) (front_left ℤ p.prints (prints_of rest) prints first_prints))
 
 -- one part more has what stands there
 pub more_cleans : (parts : List Part) (stores more : List StoreOf) (prints others : List ℤ) (last : Part) → last.stores ≡ length more → last.prints ≡ length others →
@@ -64,8 +68,10 @@ more_cleans [] stores more prints others last is is_prints all all_prints =
     let own_prints = ap (λ (n : ℕ). take n (prints ++ others)) is_prints ∙ ap (λ (zs : List ℤ). take (length others) (zs ++ others)) (none_left ℤ prints all_prints) ∙ take-length others in
     λ i. part last (own i) (own_prints i) ∷ []
 more_cleans (p ∷ rest) stores more prints others last is is_prints all all_prints =
-    let low = front_low StoreOf p.stores (stores_of rest) stores all in
-    let low_prints = front_low ℤ p.prints (prints_of rest) prints all_prints in
+    let first = sym (sum_by-cons (λ (q : Part). q.stores) p rest) ∙ all in
+    let first_prints = sym (sum_by-cons (λ (q : Part). q.prints) p rest) ∙ all_prints in
+    let low = front_low StoreOf p.stores (stores_of rest) stores first in
+    let low_prints = front_low ℤ p.prints (prints_of rest) prints first_prints in
     let own = take-append-le p.stores stores more low in
     let own_prints = take-append-le p.prints prints others low_prints in
     let behind = drop-append-le p.stores stores more low in
@@ -73,14 +79,23 @@ more_cleans (p ∷ rest) stores more prints others last is is_prints all all_pri
     (λ i. part p (own i) (own_prints i) ∷ cleans_from (rest ++ last ∷ []) (behind i) (behind_prints i))
     ∙ ap (λ (vs : List Verdict). part p (take p.stores stores) (take p.prints prints) ∷ vs)
     (more_cleans rest (drop p.stores stores) more (drop p.prints prints) others last is is_prints
-      (front_left StoreOf p.stores (stores_of rest) stores all) (front_left ℤ p.prints (prints_of rest) prints all_prints))
+      (front_left StoreOf p.stores (stores_of rest) stores first) (front_left ℤ p.prints (prints_of rest) prints first_prints))
 
 -- places past the last one are as the last one
 drop_within : (X : Type 0) (xs : List X) (n : ℕ) → drop (min n (length xs)) xs ≡ drop n xs
-drop_within X [] zero = refl
-drop_within X [] (suc n) = refl
-drop_within X (x ∷ xs) zero = refl
-drop_within X (x ∷ xs) (suc n) = drop_within X xs n
+drop_within X xs n = elim (cases_Bool (nat_le n (length xs))) [
+  | inl within ↦ (
+    let low : n ≤ length xs = leb-true n (length xs) within in
+    let same : min n (length xs) ≡ n = omega (arith, low) in
+    ap (λ (k : ℕ). drop k xs) same)
+  | inr past ↦ (
+    let high : length xs ≤ n = elim (cases_lt n (length xs)) [
+      | inl less ↦ (let low : n ≤ length xs = omega (arith, less) in absurd (cc (sym past ∙ le-leb n (length xs) low)))
+      | inr more ↦ more
+    ] in
+    let same : min n (length xs) ≡ length xs = omega (arith, high) in
+    ap (λ (k : ℕ). drop k xs) same ∙ drop-length xs ∙ sym (drop_of_length-le xs high))
+]
 
 -- behind the next part the others are left
 pub pass_cleans : (parts : List Part) (stores : List StoreOf) (prints : List ℤ) (given from from_prints given_new from_new from_prints_new : ℕ) (p : Part) →
@@ -95,23 +110,37 @@ pass_cleans parts stores prints given from from_prints given_new from_new from_p
     ∙ (λ i. part p (take p.stores (drop from stores)) (take p.prints (drop from_prints prints)) ∷ cleans_from (drop (sym given_is i) parts) (behind i) (behind_prints i))
 
 -- What stands behind those of a batch of which none was given yet is none's; and one part more has it.
-module _ (t u : ToldBatch) (open : IsOpen t) (given : u.given ≡ t.given) (stores_given : u.stores_given ≡ t.stores_given) (prints_given : u.prints_given ≡ t.prints_given)
+module _ (t u : ToldBatch) (whole : IsOpen t) (given : u.given ≡ t.given) (stores_given : u.stores_given ≡ t.stores_given) (prints_given : u.prints_given ≡ t.prints_given)
     (more : List StoreOf) (stores : u.stores ≡ t.stores ++ more) (others : List ℤ) (prints : u.prints ≡ t.prints ++ others) where
   opened : cleans u ≡ cleans_from u.parts (t.stores ++ more) (t.prints ++ others)
   opened =
-      let none = given ∙ open.given in
-      let no_stores = stores_given ∙ open.stores_given in
-      let no_prints = prints_given ∙ open.prints_given in
+      let none = given ∙ whole.given in
+      let no_stores = stores_given ∙ whole.stores_given in
+      let no_prints = prints_given ∙ whole.prints_given in
       λ i. cleans_from (drop (none i) u.parts) (drop (no_stores i) (stores i)) (drop (no_prints i) (prints i))
 
   pub cleans_stay : u.parts ≡ t.parts → cleans u ≡ cleans t
   cleans_stay same =
       opened ∙ ap (λ (ps : List Part). cleans_from ps (t.stores ++ more) (t.prints ++ others)) same
-      ∙ front_cleans t.parts t.stores more t.prints others open.stores open.prints ∙ sym (open_cleans t open)
+      ∙ front_cleans t.parts t.stores more t.prints others whole.stores whole.prints ∙ sym (open_cleans t whole)
 
   pub cleans_grow : (last : Part) → last.stores ≡ length more → last.prints ≡ length others → u.parts ≡ t.parts ++ last ∷ [] →
       cleans u ≡ cleans t ++ part last more others ∷ []
   cleans_grow last is is_prints parts =
       opened ∙ ap (λ (ps : List Part). cleans_from ps (t.stores ++ more) (t.prints ++ others)) parts
-      ∙ more_cleans t.parts t.stores more t.prints others last is is_prints open.stores open.prints
-      ∙ ap (λ (vs : List Verdict). vs ++ part last more others ∷ []) (sym (open_cleans t open))
+      ∙ more_cleans t.parts t.stores more t.prints others last is is_prints whole.stores whole.prints
+      ∙ ap (λ (vs : List Verdict). vs ++ part last more others ∷ []) (sym (open_cleans t whole))
+
+-- where a part stands a verdict does
+pub next_there : (t : ToldBatch) (p : Part) → slice_get t.parts t.given ≡ Some p → (v : Verdict) × (rest : List Verdict) × (left_to_give t ≡ v ∷ rest)
+next_there t p is = (
+  part p (take p.stores (drop t.stores_given t.stores)) (take p.prints (drop t.prints_given t.prints)),
+  cleans_from (drop (suc t.given) t.parts) (drop p.stores (drop t.stores_given t.stores)) (drop p.prints (drop t.prints_given t.prints)) ++ ending t.end,
+  ap (λ (ps : List Part). cleans_from ps (drop t.stores_given t.stores) (drop t.prints_given t.prints) ++ ending t.end) (rest_at t.parts t.given p is),
+)
+
+-- the next place
+pub one_on : {X : Type 0} (xs : List X) (i : ℕ) (x : X) → slice_get xs i ≡ Some x → min (i + 1) (length xs) ≡ suc i
+one_on [] i x is = absurd (cc is)
+one_on (y ∷ ys) zero x is = omega arith
+one_on (y ∷ ys) (suc i) x is = let low = one_on ys i x is in omega (arith, low)

@@ -99,10 +99,10 @@ module _ (e : LeanEpoch) (b n place : ℕ) (stages : List StageColumns) (came : 
     where
       few : nat_le (steps_at m key here) (fuel_left m key here) ≡ false
       few = elim (cases_Bool (nat_le (steps_at m key here) (fuel_left m key here))) [
-        | inl yes ↦ (
-          let enough : steps_at m key here ≤ fuel_left m key here = leb-true (steps_at m key here) (fuel_left m key here) yes in
-          let is = at.clean.stands.left in let steps = steps_are in absurd (omega (arith, enough, is, steps, less)))
-        | inr not ↦ not
+        | inl enough ↦ (
+          let low_steps : steps_at m key here ≤ fuel_left m key here = leb-true (steps_at m key here) (fuel_left m key here) enough in
+          let is = at.clean.stands.left in let steps = steps_are in absurd (omega (arith, low_steps, is, steps, less)))
+        | inr less_steps ↦ less_steps
       ]
 
   module _ (tables : JudgeTables) (by : JudgesBy e tables) (answer : LeanJudged) (cells_new : List ℤ) (readers_new : List Left) (collected : Collected)

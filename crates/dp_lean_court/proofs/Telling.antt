@@ -18,7 +18,7 @@ last_or (x ∷ xs) v (suc i) w is = elim (last_or xs v i w is) [
   | inr last ↦ inr (ap suc last.0, last.1)
 ]
 
-one_longer : {X : Type 0} (xs : List X) (v : X) → length (xs ++ v ∷ []) ≡ suc (length xs)
+pub one_longer : {X : Type 0} (xs : List X) (v : X) → length (xs ++ v ∷ []) ≡ suc (length xs)
 one_longer [] v = refl
 one_longer (x ∷ xs) v = ap suc (one_longer xs v)
 

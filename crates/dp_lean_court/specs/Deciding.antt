@@ -45,7 +45,7 @@ Looks ready cells readers answer cells_new readers_new collected =
 pub record Committed (locals : List CellId) (after : ℕ) (closing : Bool) (old new : Bench) (told_old told_new : ToldBatch) : Type 0 where
   pub left : new.left ≡ after
   pub cells : new.cells ≡ clear_cells locals old.cells
-  pub open : IsOpen told_new
+  pub ungiven : IsOpen told_new
   pub told : cleans told_new
       ≡ cleans told_old ++ verdict.Clean (record { stores = old.collected.stores; prints = old.collected.prints; steps = old.left - after; closing = closing }) ∷ []
 

@@ -9,9 +9,9 @@ use Rattle.dp_lean_epoch.specs.JudgeSteps.{fuel_left}
 use Rattle.dp_lean_region.specs.LeanEpoch.{LeanEpoch, marks_in, begin_in, size_in}
 
 -- This much is left of the fuel before the epoch's n-th iteration, and in this memory the judging stands there.
-pub record Stands (e : LeanEpoch) (n left : ℕ) (cells : List ℤ) : Type 0 where
-  pub left : left ≡ fuel_left (marks_in e) e.key n
-  pub cells : LeanJudges e.key n cells
+pub record Stands (e : LeanEpoch) (n spare : ℕ) (memory : List ℤ) : Type 0 where
+  pub left : spare ≡ fuel_left (marks_in e) e.key n
+  pub cells : LeanJudges e.key n memory
 
 -- These are the verdicts on the epoch's batch b, up to the first that doesn't go on, or behind which nothing came. Where memory was wanting
 -- there may be one more than the batch has iterations.

@@ -53,13 +53,13 @@ module _ (e : LeanEpoch) (b : ℕ) where
     pub loaded : LoadsComing (marks_in e) e.key (begin_in e b + i) j loads more_loads
 
   -- The first j iterations of the batch are clean and told, and the epoch goes on behind each.
-  pub record CleanTo (j left : ℕ) (cells : List ℤ) (told : List Verdict) : Type 0 where
+  pub record CleanTo (j left : ℕ) (cells : List ℤ) (vs : List Verdict) : Type 0 where
     pub few : j ≤ size_in e b
     pub goes : GoesOnTo e.key (begin_in e b + j)
     pub stands : Stands e (begin_in e b + j) left cells
-    pub told : IsTold e b told
-    pub onward : all_go_on told
-    pub count : length told ≡ j
+    pub told : IsTold e b vs
+    pub onward : all_go_on vs
+    pub count : length vs ≡ j
 
   -- .. and of n that came the readers have left what the others tell
   pub record Within (n j left : ℕ) (cells : List ℤ) (readers : List Left) (told : List Verdict) : Type 0 where
@@ -67,10 +67,10 @@ module _ (e : LeanEpoch) (b : ℕ) where
     pub coming : AreComing j (n - j) readers
 
   -- the last of those that are clean and told leaves the region
-  pub record Closed (left : ℕ) (cells : List ℤ) (told : List Verdict) : Type 0 where
-    pub told : IsTold e b told
-    pub stands : Stands e (begin_in e b + length told) left cells
-    pub closes : all_go_on told → ⊥
+  pub record Closed (left : ℕ) (cells : List ℤ) (vs : List Verdict) : Type 0 where
+    pub told : IsTold e b vs
+    pub stands : Stands e (begin_in e b + length vs) left cells
+    pub closes : all_go_on vs → ⊥
 
   -- behind those that are clean and told is one that is to be executed again
   pub record Broken (left : ℕ) (cells : List ℤ) (told : List Verdict) : Type 0 where

@@ -77,7 +77,7 @@ impl LeanCourt {
 
     /// What is decided of the iterations of a batch that came to their end, up to the first behind which none follows; they are told.
     fn decide<'p>(&mut self, batch: &LeanBatch<'p>, told: &mut ToldBatch) -> Decision
-        requires open { IsOpen told.old }
+        requires ungiven { IsOpen told.old }
         ensures came { (e : LeanEpoch) (b : ℕ) (ends : NetStatus) → AsStatus batch.now.status ends → Judges self.old e b → IsSent e (length e.key.plan.stages) b batch.now →
             cleans told.old ≡ [] → CameTo e b batch.now.iterations result self.new.bench.left self.new.bench.cells (cleans told.new) }
     {
@@ -97,7 +97,7 @@ impl LeanCourt {
 
     /// .. unless memory was wanting for the batch.
     fn decide_known<'p>(&mut self, batch: &LeanBatch<'p>, told: &mut ToldBatch) -> Decision
-        requires open { IsOpen told.old }
+        requires ungiven { IsOpen told.old }
         ensures came { (e : LeanEpoch) (b : ℕ) → Judges self.old e b → IsSent e (length e.key.plan.stages) b batch.now →
             cleans told.old ≡ [] → CameTo e b batch.now.iterations result self.new.bench.left self.new.bench.cells (cleans told.new) }
     {

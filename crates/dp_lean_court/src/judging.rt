@@ -112,7 +112,7 @@ impl Bench {
         told: &mut ToldBatch,
     ) -> Decision
         requires less { after ≤ self.old.left }
-        requires open { IsOpen told.old }
+        requires ungiven { IsOpen told.old }
         ensures { Commits locals.now after closing self.old self.new told.old told.new result }
     {
         let steps = self.left - after;
@@ -141,9 +141,9 @@ impl Bench {
         told: &mut ToldBatch,
     ) -> Decision
         requires kept { AllKept readers.old tables.ready.now.entries }
-        requires open { IsOpen told.old }
+        requires ungiven { IsOpen told.old }
         ensures kept { AllKept readers.new tables.entry.ready.now.entries }
-        ensures open { result ≡ decision.Goes → IsOpen told.new }
+        ensures ungiven { result ≡ decision.Goes → IsOpen told.new }
         ensures comes { (e : LeanEpoch) (b n : ℕ) → CameIn e b n stages.now → JudgesBy e tables.entry → place < n →
             Within e b n place self.old.left self.old.cells readers.old (cleans told.old) → Comes e b n place result self.new.left self.new.cells readers.new (cleans told.new) }
     {
@@ -176,7 +176,7 @@ impl Bench {
         told: &mut ToldBatch,
     ) -> Decision
         requires kept { AllKept readers.old tables.ready.now.entries }
-        requires open { IsOpen told.old }
+        requires ungiven { IsOpen told.old }
         ensures comes { (e : LeanEpoch) (b : ℕ) → CameIn e b iterations stages.now → JudgesBy e tables.entry →
             Within e b iterations 0 self.old.left self.old.cells readers.old (cleans told.old) → CameTo e b iterations result self.new.left self.new.cells (cleans told.new) }
     {

@@ -96,7 +96,7 @@ impl ToldBatch {
     pub(crate) fn clear(&mut self)
         ensures cleans { cleans self.new ≡ [] }
         ensures left { left_to_give self.new ≡ [] }
-        ensures open { IsOpen self.new }
+        ensures ungiven { IsOpen self.new }
     {
         self.stores.clear();
         self.prints.clear();
@@ -116,7 +116,7 @@ impl ToldBatch {
         closing: bool,
     ) -> Result<(), NoMemory>
         requires { IsOpen self.old }
-        ensures open { OnOk result (IsOpen self.new) }
+        ensures ungiven { OnOk result (IsOpen self.new) }
         ensures more { OnOk result (cleans self.new ≡ cleans self.old ++ verdict.Clean (record { stores = stores.now; prints = prints.now; steps = steps; closing = closing }) ∷ []) }
         ensures same { OnErr result (cleans self.new ≡ cleans self.old) }
     {
@@ -156,9 +156,15 @@ impl ToldBatch {
         ensures next { cleans self.old ≡ verdict.Clean (record { stores = take part.stores (drop self.old.stores_given self.old.stores); prints = take part.prints (drop self.old.prints_given self.old.prints); steps = part.steps; closing = part.closing }) ∷ cleans self.new }
         ensures end { self.new.end ≡ self.old.end }
     {
-        self.given += 1;
-        self.stores_given = place_behind(self.stores_given, part.stores, self.stores.len());
-        self.prints_given = place_behind(self.prints_given, part.prints, self.prints.len());
+        let parts = self.parts.len();
+        let stores = self.stores.len();
+        let prints = self.prints.len();
+        let given = place_behind(self.given, 1, parts);
+        let stores_given = place_behind(self.stores_given, part.stores, stores);
+        let prints_given = place_behind(self.prints_given, part.prints, prints);
+        self.given = given;
+        self.stores_given = stores_given;
+        self.prints_given = prints_given;
     }
 
     /// The next verdict, on the clean iteration of this part.
