@@ -7,6 +7,7 @@ use Rattle.dp_net.specs.Hidden.{marks_of}
 use Rattle.dp_net.specs.NetPackets.{NetStatus, NetGoing, NetVoid}
 use Rattle.dp_net.specs.NetVerdicts.{GoesOnTo}
 use Rattle.dp_judge.specs.Locals.{local_cells}
+use Rattle.dp_judge.specs.declared.verdict.Verdict.{Verdict}
 use Rattle.dp_lean.specs.Queues.{Told}
 use Rattle.dp_lean_code.specs.LeanCode.{lean_code}
 use Rattle.dp_lean_code.specs.Known.{paying_marks}
@@ -33,8 +34,9 @@ use Rattle.dp_lean_machine.specs.declared.batch.StageColumns.{StageColumns}
 use Rattle.dp_lean_machine.specs.declared.batch.LeanBatch.{LeanBatch}
 use Rattle.dp_lean_court.specs.Judging.{Judges}
 use Rattle.dp_lean_court.specs.Verdicts.{Stands}
-use Rattle.dp_lean_court.specs.Within.{JudgesBy, CameIn, CleanTo, Within, read_of}
+use Rattle.dp_lean_court.specs.Within.{JudgesBy, CameIn, CameTo, CleanTo, Within, read_of}
 use Rattle.dp_lean_court.specs.declared.court.LeanCourt.{LeanCourt}
+use Rattle.dp_lean_court.specs.declared.judging.Decision.{Decision}
 use Rattle.dp_lean_court.proofs.Telling.{told_none}
 use Rattle.dp_lean_court.proofs.Concluding.{AsLeft}
 
@@ -65,7 +67,7 @@ take_whole (x ∷ xs) (suc n) is = ap (λ ys. x ∷ ys) (take_whole xs n (let wh
 
 numbers_many : (k n : ℕ) → length (numbers_from k n) ≡ n
 numbers_many k zero = refl
-numbers_many k (suc n) = ap suc (numbers_many (suc k) n)
+numbers_many k (suc n) = ap suc (numbers_many (k + 1) n)
 
 -- the judge's tables are those of the epoch
 pub judges_by : (e : LeanEpoch) (line : Line) → IsLineOf e line → (tables : JudgeTables) → IsJudging (program_of line) (plan_of line) tables → JudgesBy e tables
@@ -167,3 +169,14 @@ module _ (e : LeanEpoch) (b : ℕ) (court : LeanCourt) (at : Judges court e b) w
                   (subst (λ (xs : List StageColumns). LoadsComing (marks_in e) e.key (begin_in e b) x.iterations (loads_among e.key (map held_in xs)) (come.loads refl).0) stages_whole (come.loads refl).1));
             };
           }
+
+      -- so many iterations are decided over readers of all that the stages told
+      pub decided_so : (n : ℕ) → n ≡ x.iterations → (stages : List StageColumns) → stages ≡ x.stages → (readers : List Left) → readers ≡ map read_of stages →
+          (told : List Verdict) → told ≡ [] → (d : Decision) (left : ℕ) (cells : List ℤ) (told_new : List Verdict) →
+          (CameIn e b n stages → Within e b n 0 court.bench.left court.bench.cells readers told → CameTo e b n d left cells told_new) → CameTo e b x.iterations d left cells told_new
+      decided_so n many stages are readers read told none d left cells told_new gives =
+          subst (λ (k : ℕ). CameTo e b k d left cells told_new) many
+          (gives (subst (λ (k : ℕ). CameIn e b k stages) (sym many) (subst (CameIn e b x.iterations) (sym are) came_in))
+          (subst (λ (k : ℕ). Within e b k 0 court.bench.left court.bench.cells readers told) (sym many)
+          (subst (λ (rs : List Left). Within e b x.iterations 0 court.bench.left court.bench.cells rs told) (sym (read ∙ ap (map read_of) are))
+          (subst (Within e b x.iterations 0 court.bench.left court.bench.cells (map read_of x.stages)) (sym none) within_begins))))

@@ -5,3 +5,4 @@ pub mod Iterating
 pub mod Committing
 pub mod Concluding
 pub mod Beginning
+pub mod Settling
