@@ -3,7 +3,6 @@ use Rattle.dp_semantics.proofs.Names.{◌≡◌, refl, sym, ◌∙◌, subst, �
 use Rattle.dp_base.specs.declared.CellId.{CellId}
 use Rattle.dp_base.specs.declared.Cause.{Cause}
 use Rattle.dp_semantics.specs.EpochVerdicts.{Again, verdict_at}
-use Rattle.dp_judge.specs.declared.verdict.Verdict.{Verdict}
 use Rattle.dp_columns.specs.Left.{Left}
 use Rattle.dp_lean_judge.specs.Collecting.{undone}
 use Rattle.dp_lean_judge.specs.declared.judge.LeanJudged.{LeanJudged}

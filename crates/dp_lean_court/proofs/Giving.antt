@@ -1,6 +1,6 @@
 -- The clean iterations that weren't given yet.
-use Rattle.std.proofs.Common.{◌≡◌, refl, sym, ap, ◌∙◌, arith, ℕ, zero, suc, ◌+◌, ◌<◌, ◌≤◌, Bool, List, [], ◌∷◌, ◌++◌, ℤ, length, take, drop, sum_by, min, Some, slice_get, drop-drop, inl, inr, nat_le, le-leb, leb-true}
-use Rattle.std.proofs.lemmas.List.{take-append-le, drop-append-le, append-nil, length-drop}
+use Rattle.std.proofs.Common.{◌≡◌, refl, sym, ap, ◌∙◌, arith, ℕ, zero, suc, ◌+◌, ◌≤◌, List, [], ◌∷◌, ◌++◌, ℤ, length, take, drop, sum_by, min, Some, slice_get, drop-drop, inl, inr, nat_le, le-leb, leb-true}
+use Rattle.std.proofs.lemmas.List.{take-append-le, drop-append-le, length-drop}
 use Rattle.std.proofs.lemmas.List.Sums.{sum_by-cons}
 use Rattle.std.proofs.lemmas.Bool.{cases_Bool, cases_lt}
 use Rattle.std.proofs.Math.Seq.{take-length, drop-length}
@@ -57,7 +57,7 @@ front_cleans (p ∷ rest) stores more prints others all all_prints =
     (λ i. part p (own i) (own_prints i) ∷ cleans_from rest (behind i) (behind_prints i))
     ∙ ap (λ (vs : List Verdict). part p (take p.stores stores) (take p.prints prints) ∷ vs)
     (front_cleans rest (drop p.stores stores) more (drop p.prints prints) others
-      (front_left StoreOf p.stores (stores_of rest) stores first) (front_left ℤ p.prints (prints_of rest) prints first_prints))
+    (front_left StoreOf p.stores (stores_of rest) stores first) (front_left ℤ p.prints (prints_of rest) prints first_prints))
 
 -- one part more has what stands there
 pub more_cleans : (parts : List Part) (stores more : List StoreOf) (prints others : List ℤ) (last : Part) → last.stores ≡ length more → last.prints ≡ length others →
@@ -79,22 +79,22 @@ more_cleans (p ∷ rest) stores more prints others last is is_prints all all_pri
     (λ i. part p (own i) (own_prints i) ∷ cleans_from (rest ++ last ∷ []) (behind i) (behind_prints i))
     ∙ ap (λ (vs : List Verdict). part p (take p.stores stores) (take p.prints prints) ∷ vs)
     (more_cleans rest (drop p.stores stores) more (drop p.prints prints) others last is is_prints
-      (front_left StoreOf p.stores (stores_of rest) stores first) (front_left ℤ p.prints (prints_of rest) prints first_prints))
+    (front_left StoreOf p.stores (stores_of rest) stores first) (front_left ℤ p.prints (prints_of rest) prints first_prints))
 
 -- places past the last one are as the last one
 drop_within : (X : Type 0) (xs : List X) (n : ℕ) → drop (min n (length xs)) xs ≡ drop n xs
 drop_within X xs n = elim (cases_Bool (nat_le n (length xs))) [
   | inl within ↦ (
-    let low : n ≤ length xs = leb-true n (length xs) within in
-    let same : min n (length xs) ≡ n = omega (arith, low) in
-    ap (λ (k : ℕ). drop k xs) same)
+      let low : n ≤ length xs = leb-true n (length xs) within in
+      let same : min n (length xs) ≡ n = omega (arith, low) in
+      ap (λ (k : ℕ). drop k xs) same)
   | inr past ↦ (
-    let high : length xs ≤ n = elim (cases_lt n (length xs)) [
-      | inl less ↦ (let low : n ≤ length xs = omega (arith, less) in absurd (cc (sym past ∙ le-leb n (length xs) low)))
-      | inr more ↦ more
-    ] in
-    let same : min n (length xs) ≡ length xs = omega (arith, high) in
-    ap (λ (k : ℕ). drop k xs) same ∙ drop-length xs ∙ sym (drop_of_length-le xs high))
+      let high : length xs ≤ n = elim (cases_lt n (length xs)) [
+        | inl less ↦ (let low : n ≤ length xs = omega (arith, less) in absurd (cc (sym past ∙ le-leb n (length xs) low)))
+        | inr more ↦ more
+      ] in
+      let same : min n (length xs) ≡ length xs = omega (arith, high) in
+      ap (λ (k : ℕ). drop k xs) same ∙ drop-length xs ∙ sym (drop_of_length-le xs high))
 ]
 
 -- behind the next part the others are left

@@ -4,13 +4,11 @@ use Rattle.dp_base.specs.declared.CellId.{CellId}
 use Rattle.dp_base.specs.declared.Cause.{Cause}
 use Rattle.dp_tree.specs.Numbering.{numbers_from}
 use Rattle.dp_semantics.specs.Judge.{last}
-use Rattle.dp_semantics.specs.EpochKey.{EpochKey}
 use Rattle.dp_semantics.specs.EpochVerdicts.{Carried, Verdict as Said, Commit, Again, verdict_at, state_at}
 use Rattle.dp_net.specs.NetItems.{Marks}
 use Rattle.dp_net.specs.NetVerdicts.{GoesOnTo, SaysTheSame}
 use Rattle.dp_net.proofs.BatchVerdicts.{goes_further}
-use Rattle.dp_judge.specs.Told.{Says}
-use Rattle.dp_judge.specs.Locals.{clear_cells, local_cells}
+use Rattle.dp_judge.specs.Locals.{clear_cells}
 use Rattle.dp_judge.specs.declared.verdict.Verdict.{Verdict}
 use Rattle.dp_judge.specs.declared.verdict.Verdict.TheVariants as verdict
 use Rattle.dp_judge.proofs.LocalLemmas.{clear_local_cells}
@@ -32,12 +30,12 @@ use Rattle.dp_lean_epoch.specs.Steps.{without_locals}
 use Rattle.dp_lean_epoch.specs.LeanBatch.{steps_among}
 use Rattle.dp_lean_epoch.specs.JudgeSteps as judge
 use Rattle.dp_lean_epoch.specs.JudgeSteps.{fuel_left, lean_carried, lean_verdict, lean_verdict_by, again_at}
-use Rattle.dp_lean_region.specs.LeanEpoch.{LeanEpoch, marks_in, begin_in, size_in}
+use Rattle.dp_lean_region.specs.LeanEpoch.{LeanEpoch, marks_in, begin_in}
 use Rattle.dp_lean_region.specs.declared.line.JudgeTables.{JudgeTables}
 use Rattle.dp_lean_machine.specs.Held.{held_in}
 use Rattle.dp_lean_machine.specs.declared.batch.StageColumns.{StageColumns}
-use Rattle.dp_lean_court.specs.Verdicts.{Stands, IsTold, all_go_on}
-use Rattle.dp_lean_court.specs.Within.{JudgesBy, CameIn, AreComing, CleanTo, Within, Closed, Broken}
+use Rattle.dp_lean_court.specs.Verdicts.{Stands, IsTold}
+use Rattle.dp_lean_court.specs.Within.{JudgesBy, CameIn, CleanTo, Within, Closed}
 use Rattle.dp_lean_court.specs.Deciding.{Looks}
 use Rattle.dp_lean_court.proofs.Telling.{told_more, go_on_too, last_there, one_longer}
 use Rattle.dp_lean_court.proofs.Ends.{Held, held, differs, again_said, goes_said, differs_again}
@@ -100,8 +98,8 @@ module _ (e : LeanEpoch) (b n place : ℕ) (stages : List StageColumns) (came : 
       few : nat_le (steps_at m key here) (fuel_left m key here) ≡ false
       few = elim (cases_Bool (nat_le (steps_at m key here) (fuel_left m key here))) [
         | inl enough ↦ (
-          let low_steps : steps_at m key here ≤ fuel_left m key here = leb-true (steps_at m key here) (fuel_left m key here) enough in
-          let is = at.clean.stands.left in let steps = steps_are in absurd (omega (arith, low_steps, is, steps, less)))
+            let low_steps : steps_at m key here ≤ fuel_left m key here = leb-true (steps_at m key here) (fuel_left m key here) enough in
+            let is = at.clean.stands.left in let steps = steps_are in absurd (omega (arith, low_steps, is, steps, less)))
         | inr less_steps ↦ less_steps
       ]
 
@@ -125,7 +123,7 @@ module _ (e : LeanEpoch) (b n place : ℕ) (stages : List StageColumns) (came : 
     pub differs_then : answer ≡ judged.Differs → (cause : Cause) × (Again cause ≡ verdict_at key here)
     differs_then is =
         let same = differs key.program key.plan cells_new readers_new collected seen.0 ended.1 decided.0 ended.3
-            (subst (λ (a : LeanJudged). Judged key.program key.plan seen.0 ended.1 a cells_new readers_new collected) is seen.1) in
+        (subst (λ (a : LeanJudged). Judged key.program key.plan seen.0 ended.1 a cells_new readers_new collected) is seen.1) in
         let enough = nat_le (steps_at m key here) (fuel_left m key here) in
         again_is (lean_verdict_by m key here enough lean.Differs) (ap (lean_verdict_by m key here enough) same) (differs_again m key here enough)
 
@@ -173,7 +171,7 @@ module _ (e : LeanEpoch) (b n place : ℕ) (stages : List StageColumns) (came : 
         stands k is = record {
           left =
               (let spent : left_new ≡ key.fuel - (state_at key (suc here)).steps =
-                (let was = at.clean.stands.left in let steps = steps_are in let more = next.steps in omega (arith, was, steps, more, leaves, left_is)) in
+              (let was = at.clean.stands.left in let steps = steps_are in let more = next.steps in omega (arith, was, steps, more, leaves, left_is)) in
               spent ∙ ap (λ (i : ℕ). key.fuel - (state_at key i).steps) (sym is));
           cells =
               subst (λ (i : ℕ). LeanJudges key i cells_then) (sym is)

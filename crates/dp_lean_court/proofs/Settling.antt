@@ -17,7 +17,7 @@ settles e b n court new at s end before t same left done = record {
   told = subst (IsTold e b) (sym left) done.verdicts;
   stands = subst (λ (vs : List Verdict). Stands e (begin_in e b + length vs) new.bench.left new.bench.cells) (sym same) done.stands;
   next = λ goes all. (let then_next = done.next goes (subst all_go_on left all) in (
-      ap length left ∙ then_next.0,
-      record { epoch = at.epoch; laws = at.laws; goes = then_next.1; stands = then_next.2 },
+    ap length left ∙ then_next.0,
+    record { epoch = at.epoch; laws = at.laws; goes = then_next.1; stands = then_next.2 },
   ));
 }

@@ -1,6 +1,5 @@
 -- The verdicts on a batch, one more behind those that were told.
-use Rattle.dp_semantics.proofs.Names.{◌≡◌, refl, sym, ap, ◌∙◌, subst, arith, ℕ, zero, suc, ◌+◌, ◌<◌, ◌≤◌, ◌⊎◌, inl, inr, true, List, [], ◌∷◌, ◌++◌, length, length-append, Some, slice_get}
-use Rattle.dp_semantics.specs.EpochKey.{EpochKey}
+use Rattle.dp_semantics.proofs.Names.{◌≡◌, refl, sym, ap, subst, arith, ℕ, zero, suc, ◌+◌, ◌≤◌, ◌⊎◌, inl, inr, true, List, [], ◌∷◌, ◌++◌, length, Some, slice_get}
 use Rattle.dp_semantics.specs.EpochVerdicts.{verdict_at}
 use Rattle.dp_net.specs.NetVerdicts.{GoesOnTo}
 use Rattle.dp_judge.specs.Told.{Says, goes_on_behind}
@@ -49,7 +48,7 @@ module _ (e : LeanEpoch) (b : ℕ) where
       | inr last ↦ (
         subst (λ (n : ℕ). GoesOnTo e.key (begin_in e b + n)) (sym last.0) goes,
         subst (λ (n : ℕ). Says e.key w (verdict_at e.key (begin_in e b + n))) (sym last.0)
-        (subst (λ (x : Verdict). Says e.key x (verdict_at e.key (begin_in e b + length vs))) last.1 says),
+            (subst (λ (x : Verdict). Says e.key x (verdict_at e.key (begin_in e b + length vs))) last.1 says),
       )
     ];
     onward = λ i w is more. elim (last_or vs v i w is) [

@@ -1,5 +1,5 @@
 -- What is decided of the iterations of a batch, one by one.
-use Rattle.std.specs.Prelude.{◌≡◌, ℕ, List, [], ◌∷◌, ◌++◌, ℤ, length, take, drop, sum_by}
+use Rattle.std.specs.Prelude.{◌≡◌, List, [], ◌∷◌, ◌++◌, ℤ, length, take, drop, sum_by}
 use Rattle.dp_base.specs.declared.StoreOf.{StoreOf}
 use Rattle.dp_judge.specs.declared.verdict.Verdict.{Verdict}
 use Rattle.dp_judge.specs.declared.verdict.Verdict.TheVariants.{Clean, Unclean, NoMemory}

@@ -1,5 +1,5 @@
 -- The judging within a batch, between two iterations.
-use Rattle.std.specs.Prelude.{◌≡◌, ◌<◌, ◌≤◌, ◌+◌, ◌-◌, ℕ, suc, false, List, ℤ, length, map, slice_get}
+use Rattle.std.specs.Prelude.{◌≡◌, ◌<◌, ◌≤◌, ◌+◌, ◌-◌, ℕ, suc, List, ℤ, length, map}
 use Rattle.dp_base.specs.declared.Cause.{Cause}
 use Rattle.dp_tree.specs.Eval.{Load}
 use Rattle.dp_semantics.specs.EpochVerdicts.{Again, verdict_at}
@@ -13,8 +13,7 @@ use Rattle.dp_columns.specs.Left.{Left}
 use Rattle.dp_lean_judge.specs.Ready.{IsReady}
 use Rattle.dp_lean_judge.specs.Shown.{ShowsQueues}
 use Rattle.dp_lean_epoch.specs.Own.{Arrives, steps_at}
-use Rattle.dp_lean_epoch.specs.Coming.{Coming, LoadsComing, LeanJudges}
-use Rattle.dp_lean_epoch.specs.JudgeSteps.{fuel_left}
+use Rattle.dp_lean_epoch.specs.Coming.{Coming, LoadsComing}
 use Rattle.dp_lean_epoch.specs.LeanBatch.{steps_among}
 use Rattle.dp_lean_region.specs.LeanEpoch.{LeanEpoch, IsLeanEpoch, HasJudgeLaws, marks_in, begin_in, size_in}
 use Rattle.dp_lean_region.specs.declared.line.JudgeTables.{JudgeTables}

@@ -87,7 +87,9 @@ impl LeanCourt {
                 let mut readers = readers;
                 let tables = batch.line().judging();
                 let most = batch.iterations();
-                let decision = self.bench.decide_all(tables, stages, most, &mut readers, told);
+                let decision = self
+                    .bench
+                    .decide_all(tables, stages, most, &mut readers, told);
                 keep_rooms(readers, &mut self.rooms);
                 decision
             }

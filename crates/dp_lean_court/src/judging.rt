@@ -80,7 +80,9 @@ impl Bench {
         ensures cells { self.new.cells ≡ undone self.old.collected.before self.old.cells }
     {
         let Bench {
-            cells, collected, ..
+            cells,
+            collected,
+            ..
         } = self;
         collected.undo(cells);
     }
@@ -98,7 +100,9 @@ impl Bench {
         ensures judged { Looks ready.now self.old.cells readers.old result self.new.cells readers.new self.new.collected }
     {
         let Bench {
-            cells, collected, ..
+            cells,
+            collected,
+            ..
         } = self;
         lean_judge(ready, cells, readers, collected)
     }

@@ -27,7 +27,7 @@ returns-in-Ok c = record {
 pub returns-in-Err : goal.returns-in-Err
 returns-in-Err c = record {
   came = λ e b ends like at sent none. (
-      0,
-      subst (λ (vs : List Verdict). CleanTo e b 0 c.args.self.now.bench.left c.args.self.now.bench.cells vs) (sym none) (clean_begins e b c.args.self.now at),
+    0,
+    subst (λ (vs : List Verdict). CleanTo e b 0 c.args.self.now.bench.left c.args.self.now.bench.cells vs) (sym none) (clean_begins e b c.args.self.now at),
   );
 }

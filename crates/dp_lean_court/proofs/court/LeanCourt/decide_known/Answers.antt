@@ -10,8 +10,8 @@ use Rattle.dp_lean_court.proofs.court.LeanCourt.decide_known.Goals as goal
 pub returns-in-NoMemory : goal.returns-in-NoMemory
 returns-in-NoMemory c = record {
   came = λ e b at sent none. (
-      0,
-      subst (λ (vs : List Verdict). CleanTo e b 0 c.args.self.now.bench.left c.args.self.now.bench.cells vs) (sym none) (clean_begins e b c.args.self.now at),
+    0,
+    subst (λ (vs : List Verdict). CleanTo e b 0 c.args.self.now.bench.left c.args.self.now.bench.cells vs) (sym none) (clean_begins e b c.args.self.now at),
   );
 }
 

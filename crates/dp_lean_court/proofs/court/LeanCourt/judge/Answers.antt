@@ -1,5 +1,5 @@
 use Rattle.std.proofs.Common.{ap, ◌≡◌, ◌∙◌, ◌++◌}
-use Rattle.dp_lean_court.specs.Decided.{cleans, ending, left_to_give}
+use Rattle.dp_lean_court.specs.Decided.{cleans, ending}
 use Rattle.dp_lean_court.specs.Deciding.{end_by}
 use Rattle.dp_lean_court.specs.declared.told.ToldEnd.{ToldEnd}
 use Rattle.dp_lean_court.proofs.Beginning.{as_left}

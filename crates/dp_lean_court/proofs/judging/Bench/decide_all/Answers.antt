@@ -1,4 +1,4 @@
-use Rattle.std.proofs.Common.{◌≡◌, refl, subst, arith, ℕ, suc, ◌+◌, ◌<◌}
+use Rattle.std.proofs.Common.{◌≡◌, refl, subst, arith, ℕ, suc, ◌+◌}
 use Rattle.dp_lean_court.specs.Decided.{cleans}
 use Rattle.dp_lean_court.specs.Within.{CleanTo, Within}
 use Rattle.dp_lean_court.proofs.judging.Bench.decide_all.Goals as goal
@@ -18,9 +18,9 @@ loop-place-preserved c = (
   c.in-Goes.ensures.ungiven refl,
   omega (arith, c.loop-place-test.true, c.loop-place.auto.place-end),
   λ e b came by at. (
-    let more : suc c.loop-place.place ≡ c.loop-place.place + 1 = omega arith in
-    subst (λ (i : ℕ). Within e b c.args.iterations i c.decide.new.self.left c.decide.new.self.cells c.decide.new.readers (cleans c.decide.new.told)) more
-    (c.in-Goes.ensures.comes e b c.args.iterations came by (omega (arith, c.loop-place-test.true, c.loop-place.auto.place-end)) (c.loop-place.invariant.3 e b came by at))),
+      let more : suc c.loop-place.place ≡ c.loop-place.place + 1 = omega arith in
+      subst (λ (i : ℕ). Within e b c.args.iterations i c.decide.new.self.left c.decide.new.self.cells c.decide.new.readers (cleans c.decide.new.told)) more
+      (c.in-Goes.ensures.comes e b c.args.iterations came by (omega (arith, c.loop-place-test.true, c.loop-place.auto.place-end)) (c.loop-place.invariant.3 e b came by at))),
 )
 
 pub returns-in-Closes : goal.returns-in-Closes
