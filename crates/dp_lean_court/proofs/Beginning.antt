@@ -34,7 +34,7 @@ use Rattle.dp_lean_machine.specs.declared.batch.StageColumns.{StageColumns}
 use Rattle.dp_lean_machine.specs.declared.batch.LeanBatch.{LeanBatch}
 use Rattle.dp_lean_court.specs.Judging.{Judges}
 use Rattle.dp_lean_court.specs.Verdicts.{Stands}
-use Rattle.dp_lean_court.specs.Within.{JudgesBy, CameIn, CameTo, CleanTo, Within, read_of}
+use Rattle.dp_lean_court.specs.steps.Within.{JudgesBy, CameIn, CameTo, CleanTo, Within, read_of}
 use Rattle.dp_lean_court.specs.declared.court.LeanCourt.{LeanCourt}
 use Rattle.dp_lean_court.specs.declared.judging.Decision.{Decision}
 use Rattle.dp_lean_court.proofs.Telling.{told_none}

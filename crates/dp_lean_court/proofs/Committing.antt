@@ -12,9 +12,10 @@ use Rattle.dp_lean_region.specs.LeanEpoch.{LeanEpoch, begin_in}
 use Rattle.dp_lean_region.specs.declared.line.JudgeTables.{JudgeTables}
 use Rattle.dp_lean_machine.specs.Held.{held_in}
 use Rattle.dp_lean_machine.specs.declared.batch.StageColumns.{StageColumns}
-use Rattle.dp_lean_court.specs.Decided.{IsOpen, cleans}
-use Rattle.dp_lean_court.specs.Within.{JudgesBy, CameIn, CleanTo, Within, Closed, Broken, Comes}
-use Rattle.dp_lean_court.specs.Deciding.{Looks, Committed, Undone, Commits, going_by}
+use Rattle.dp_lean_court.specs.Decided.{cleans}
+use Rattle.dp_lean_court.specs.steps.Adding.{IsUngiven}
+use Rattle.dp_lean_court.specs.steps.Within.{JudgesBy, CameIn, CleanTo, Within, Closed, Broken, Comes}
+use Rattle.dp_lean_court.specs.steps.Deciding.{SeesAs, Committed, Undone, CommitsSo, going_by}
 use Rattle.dp_lean_court.specs.declared.judging.Bench.{Bench}
 use Rattle.dp_lean_court.specs.declared.judging.Decision.{Decision}
 use Rattle.dp_lean_court.specs.declared.judging.Decision.TheVariants.{Goes, Closes, Unclean, NoMemory}
@@ -22,11 +23,11 @@ use Rattle.dp_lean_court.specs.declared.told.ToldBatch.{ToldBatch}
 use Rattle.dp_lean_court.proofs.Iterating.{clean_still, spent, differs_then, goes_then, closes_then}
 
 module _ (locals : List CellId) (after : ℕ) (old new : Bench) (told_old told_new : ToldBatch) where
-  pub committed : (closing : Bool) → Committed locals after closing old new told_old told_new → Commits locals after closing old new told_old told_new (going_by closing)
+  pub committed : (closing : Bool) → Committed locals after closing old new told_old told_new → CommitsSo locals after closing old new told_old told_new (going_by closing)
   committed true is = (refl, is)
   committed false is = (refl, is)
 
-  pub opened_if : (closing : Bool) (d : Decision) → Commits locals after closing old new told_old told_new d → d ≡ Goes → IsOpen told_new
+  pub opened_if : (closing : Bool) (d : Decision) → CommitsSo locals after closing old new told_old told_new d → d ≡ Goes → IsUngiven told_new
   opened_if closing Goes is same = is.1.ungiven
   opened_if closing Closes is same = absurd (cc same)
   opened_if closing Unclean is same = absurd is
@@ -35,7 +36,7 @@ module _ (locals : List CellId) (after : ℕ) (old new : Bench) (told_old told_n
 module _ (e : LeanEpoch) (b n place : ℕ) (stages : List StageColumns) (came : CameIn e b n stages) (low : place < n) (left : ℕ) (cells : List ℤ) (readers : List Left)
     (told_old told_new : ToldBatch) (at : Within e b n place left cells readers (cleans told_old)) (tables : JudgeTables) (by : JudgesBy e tables) (bench bench_new : Bench)
     (same : bench.left ≡ left) (before : undone bench.collected.before bench.cells ≡ cells) (readers_new : List Left) (answer : LeanJudged)
-    (looks : Looks tables.ready.now cells readers answer bench.cells readers_new bench.collected) where
+    (looks : SeesAs tables.ready.now cells readers answer bench.cells readers_new bench.collected) where
   at_bench : Within e b n place bench.left cells readers (cleans told_old)
   at_bench = subst (λ (k : ℕ). Within e b n place k cells readers (cleans told_old)) (sym same) at
 
@@ -55,7 +56,7 @@ module _ (e : LeanEpoch) (b n place : ℕ) (stages : List StageColumns) (came : 
 
   -- else it is committed
   pub commits_come : (closing : Bool) → answer ≡ judged.Holds closing → (after : ℕ) → bench.left ≡ after + steps_among (map held_in stages) place → (d : Decision) →
-      Commits tables.locals.now after closing bench bench_new told_old told_new d → Comes e b n place d bench_new.left bench_new.cells readers_new (cleans told_new)
+      CommitsSo tables.locals.now after closing bench bench_new told_old told_new d → Comes e b n place d bench_new.left bench_new.cells readers_new (cleans told_new)
   commits_come closing holds after leaves Goes is =
       subst (Within e b n (suc place) bench_new.left bench_new.cells readers_new) (sym is.1.told)
       (goes_then e b n place stages came low bench.left cells readers (cleans told_old) at_bench tables by answer bench.cells readers_new bench.collected looks closing holds after leaves

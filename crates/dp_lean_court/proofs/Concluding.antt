@@ -10,9 +10,9 @@ use Rattle.dp_lean_region.specs.LeanEpoch.{LeanEpoch, begin_in, size_in}
 use Rattle.dp_lean_machine.specs.declared.batch.BatchStatus.{BatchStatus}
 use Rattle.dp_lean_machine.specs.declared.batch.BatchStatus.TheVariants as status
 use Rattle.dp_lean_court.specs.Decided.{ending}
-use Rattle.dp_lean_court.specs.Verdicts.{Stands, IsTold, all_go_on}
-use Rattle.dp_lean_court.specs.Within.{CleanTo, CameTo}
-use Rattle.dp_lean_court.specs.Deciding.{end_by}
+use Rattle.dp_lean_court.specs.Verdicts.{Stands, AreTold, EachGoesOn}
+use Rattle.dp_lean_court.specs.steps.Within.{CleanTo, CameTo}
+use Rattle.dp_lean_court.specs.steps.Deciding.{end_of_decision}
 use Rattle.dp_lean_court.specs.declared.judging.Decision.{Decision}
 use Rattle.dp_lean_court.specs.declared.judging.Decision.TheVariants as decision
 use Rattle.dp_lean_court.specs.declared.told.ToldEnd.{ToldEnd}
@@ -30,14 +30,14 @@ module _ (e : LeanEpoch) (b n : ℕ) where
   module _ (left : ℕ) (cells : List ℤ) (told : List Verdict) where
     -- all that is to be told, and where the judging stands then
     pub record Concludes (s : BatchStatus) (end : ToldEnd) : Type 0 where
-      pub verdicts : IsTold e b (told ++ ending end)
+      pub verdicts : AreTold e b (told ++ ending end)
       pub stands : Stands e (begin_in e b + length told) left cells
-      pub next : s ≡ status.Going → all_go_on (told ++ ending end) → (length (told ++ ending end) ≡ size_in e b) × GoesOnTo e.key (begin_in e b + size_in e b)
+      pub next : s ≡ status.Going → EachGoesOn (told ++ ending end) → (length (told ++ ending end) ≡ size_in e b) × GoesOnTo e.key (begin_in e b + size_in e b)
           × Stands e (begin_in e b + size_in e b) left cells
 
     -- with one behind which none follows
     with_last : (place : ℕ) → CleanTo e b place left cells told → (v : Verdict) → Says e.key v (verdict_at e.key (begin_in e b + place)) →
-        IsTold e b (told ++ v ∷ [])
+        AreTold e b (told ++ v ∷ [])
     with_last place clean v says =
         told_more e b told clean.told clean.onward (let few = clean.few in let count = clean.count in omega (arith, few, count))
         (subst (λ (i : ℕ). GoesOnTo e.key (begin_in e b + i)) (sym clean.count) clean.goes) v
@@ -63,7 +63,7 @@ module _ (e : LeanEpoch) (b n : ℕ) where
 
     over : (s : BatchStatus) → (s ≡ status.Going → n ≡ size_in e b) → CleanTo e b n left cells told → Concludes s ends.Over
     over s whole clean = record {
-      verdicts = subst (IsTold e b) (sym (append-nil told)) clean.told;
+      verdicts = subst (AreTold e b) (sym (append-nil told)) clean.told;
       stands = stands_then n clean;
       next = λ goes all. (
         ap length (append-nil told) ∙ clean.count ∙ whole goes,
@@ -72,15 +72,15 @@ module _ (e : LeanEpoch) (b n : ℕ) where
       );
     }
 
-    pub concludes : (s : BatchStatus) → AsLeft s → (d : Decision) → CameTo e b n d left cells told → Concludes s (end_by d s)
+    pub concludes : (s : BatchStatus) → AsLeft s → (d : Decision) → CameTo e b n d left cells told → Concludes s (end_of_decision d s)
     concludes status.Going whole decision.Goes came = over status.Going (λ goes. whole) came
     concludes status.Closing rest decision.Goes came = over status.Closing (λ goes. absurd (cc goes)) came
     concludes status.Void again decision.Goes came = unclean status.Void n came (again came.goes)
     concludes status.NoMemory rest decision.Goes came = wanting status.NoMemory n came
     concludes s rest decision.Closes came = record {
-      verdicts = subst (IsTold e b) (sym (append-nil told)) came.told;
+      verdicts = subst (AreTold e b) (sym (append-nil told)) came.told;
       stands = came.stands;
-      next = λ goes all. absurd (came.closes (subst all_go_on (append-nil told) all));
+      next = λ goes all. absurd (came.closes (subst EachGoesOn (append-nil told) all));
     }
     concludes s rest decision.Unclean came = unclean s came.place came.clean came.again
     concludes s rest decision.NoMemory came = wanting s came.0 came.1

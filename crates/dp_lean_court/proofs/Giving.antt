@@ -6,15 +6,19 @@ use Rattle.std.proofs.lemmas.Bool.{cases_Bool, cases_lt}
 use Rattle.std.proofs.Math.Seq.{take-length, drop-length}
 use Rattle.std.proofs.Math.ListN.{drop_of_length-le}
 use Rattle.dp_base.specs.declared.StoreOf.{StoreOf}
+use Rattle.std.specs.List.{list_all}
+use Rattle.std.proofs.lemmas.List.Folds.{list_all-append}
+use Rattle.dp_judge.specs.Told.{goes_on_behind}
 use Rattle.dp_judge.specs.declared.verdict.Verdict.{Verdict}
 use Rattle.dp_judge.specs.declared.verdict.Verdict.TheVariants.{Clean}
 use Rattle.dp_columns.proofs.Places.{rest_at}
-use Rattle.dp_lean_court.specs.Decided.{cleans, cleans_from, ending, left_to_give, IsOpen}
+use Rattle.dp_lean_court.specs.Decided.{cleans, cleans_from, ending, left_to_give}
+use Rattle.dp_lean_court.specs.steps.Adding.{IsUngiven, none_closing}
 use Rattle.dp_lean_court.specs.declared.told.Part.{Part}
 use Rattle.dp_lean_court.specs.declared.told.ToldBatch.{ToldBatch}
 
 -- where none was given, all are left
-pub open_cleans : (t : ToldBatch) → IsOpen t → cleans t ≡ cleans_from t.parts t.stores t.prints
+pub open_cleans : (t : ToldBatch) → IsUngiven t → cleans t ≡ cleans_from t.parts t.stores t.prints
 open_cleans t whole =
     ap (λ (n : ℕ). cleans_from (drop n t.parts) (drop t.stores_given t.stores) (drop t.prints_given t.prints)) whole.given
     ∙ ap (λ (n : ℕ). cleans_from t.parts (drop n t.stores) (drop t.prints_given t.prints)) whole.stores_given
@@ -110,7 +114,7 @@ pass_cleans parts stores prints given from from_prints given_new from_new from_p
     ∙ (λ i. part p (take p.stores (drop from stores)) (take p.prints (drop from_prints prints)) ∷ cleans_from (drop (sym given_is i) parts) (behind i) (behind_prints i))
 
 -- What stands behind those of a batch of which none was given yet is none's; and one part more has it.
-module _ (t u : ToldBatch) (whole : IsOpen t) (given : u.given ≡ t.given) (stores_given : u.stores_given ≡ t.stores_given) (prints_given : u.prints_given ≡ t.prints_given)
+module _ (t u : ToldBatch) (whole : IsUngiven t) (given : u.given ≡ t.given) (stores_given : u.stores_given ≡ t.stores_given) (prints_given : u.prints_given ≡ t.prints_given)
     (more : List StoreOf) (stores : u.stores ≡ t.stores ++ more) (others : List ℤ) (prints : u.prints ≡ t.prints ++ others) where
   opened : cleans u ≡ cleans_from u.parts (t.stores ++ more) (t.prints ++ others)
   opened =
@@ -144,3 +148,18 @@ pub one_on : {X : Type 0} (xs : List X) (i : ℕ) (x : X) → slice_get xs i ≡
 one_on [] i x is = absurd (cc is)
 one_on (y ∷ ys) zero x is = omega arith
 one_on (y ∷ ys) (suc i) x is = let low = one_on ys i x is in omega (arith, low)
+
+-- behind the last part no clean iteration is left
+pub none_clean : (t : ToldBatch) → length t.parts ≤ t.given → cleans t ≡ []
+none_clean t past = ap (λ (ps : List Part). cleans_from ps (drop t.stores_given t.stores) (drop t.prints_given t.prints)) (drop_of_length-le t.parts past)
+
+cleans_go : (parts : List Part) (stores : List StoreOf) (prints : List ℤ) → list_all goes_on_behind (cleans_from parts stores prints) ≡ none_closing parts
+cleans_go [] stores prints = refl
+cleans_go (p ∷ rest) stores prints = ap (λ (t : Bool). not p.closing && t) (cleans_go rest (drop p.stores stores) (drop p.prints prints))
+
+-- the epoch goes on behind what is left where no part closes and nothing stands behind them
+pub goes_on_so : (t : ToldBatch) → none_closing (drop (min t.given (length t.parts)) t.parts) && list_all goes_on_behind (ending t.end) ≡ list_all goes_on_behind (left_to_give t)
+goes_on_so t =
+    ap (λ (ps : List Part). none_closing ps && list_all goes_on_behind (ending t.end)) (drop_within Part t.parts t.given)
+    ∙ ap (λ (test : Bool). test && list_all goes_on_behind (ending t.end)) (sym (cleans_go (drop t.given t.parts) (drop t.stores_given t.stores) (drop t.prints_given t.prints)))
+    ∙ sym (list_all-append goes_on_behind (cleans t) (ending t.end))

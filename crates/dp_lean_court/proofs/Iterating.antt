@@ -34,9 +34,9 @@ use Rattle.dp_lean_region.specs.LeanEpoch.{LeanEpoch, marks_in, begin_in}
 use Rattle.dp_lean_region.specs.declared.line.JudgeTables.{JudgeTables}
 use Rattle.dp_lean_machine.specs.Held.{held_in}
 use Rattle.dp_lean_machine.specs.declared.batch.StageColumns.{StageColumns}
-use Rattle.dp_lean_court.specs.Verdicts.{Stands, IsTold}
-use Rattle.dp_lean_court.specs.Within.{JudgesBy, CameIn, CleanTo, Within, Closed}
-use Rattle.dp_lean_court.specs.Deciding.{Looks}
+use Rattle.dp_lean_court.specs.Verdicts.{Stands, AreTold}
+use Rattle.dp_lean_court.specs.steps.Within.{JudgesBy, CameIn, CleanTo, Within, Closed}
+use Rattle.dp_lean_court.specs.steps.Deciding.{SeesAs}
 use Rattle.dp_lean_court.proofs.Telling.{told_more, go_on_too, last_there, one_longer}
 use Rattle.dp_lean_court.proofs.Ends.{Held, held, differs, again_said, goes_said, differs_again}
 
@@ -104,7 +104,7 @@ module _ (e : LeanEpoch) (b n place : ℕ) (stages : List StageColumns) (came : 
       ]
 
   module _ (tables : JudgeTables) (by : JudgesBy e tables) (answer : LeanJudged) (cells_new : List ℤ) (readers_new : List Left) (collected : Collected)
-      (looks : Looks tables.ready.now cells readers answer cells_new readers_new collected) where
+      (looks : SeesAs tables.ready.now cells readers answer cells_new readers_new collected) where
     abbrev Ended : Type 0
     Ended = (ops : ℕ) × (end : JudgeEnd)
         × (judge_flat key.program key.plan (lean_code key.program key.plan (last key.plan) m) ops (judge_begin cells at.coming.queues at.coming.loads) ≡ Some end)
@@ -159,7 +159,7 @@ module _ (e : LeanEpoch) (b n place : ℕ) (stages : List StageColumns) (came : 
       counted : length told ≡ place
       counted = at.clean.count
 
-      told_is : IsTold e b told_then
+      told_is : AreTold e b told_then
       told_is = told_more e b told at.clean.told at.clean.onward
           (let few = at.clean.few in let count = counted in omega (arith, few, count))
           (subst (λ (i : ℕ). GoesOnTo key (begin_in e b + i)) (sym counted) at.clean.goes) (verdict.Clean carried)

@@ -5,7 +5,7 @@ use Rattle.dp_net.specs.NetVerdicts.{GoesOnTo}
 use Rattle.dp_judge.specs.Told.{Says, goes_on_behind}
 use Rattle.dp_judge.specs.declared.verdict.Verdict.{Verdict}
 use Rattle.dp_lean_region.specs.LeanEpoch.{LeanEpoch, begin_in, size_in}
-use Rattle.dp_lean_court.specs.Verdicts.{IsTold, all_go_on}
+use Rattle.dp_lean_court.specs.Verdicts.{AreTold, EachGoesOn}
 
 -- what stands at a place of a list with one item more: one that was there, or the last
 last_or : {X : Type 0} (xs : List X) (v : X) (i : ℕ) (w : X) → slice_get (xs ++ v ∷ []) i ≡ Some w → (slice_get xs i ≡ Some w) ⊎ ((i ≡ length xs) × (v ≡ w))
@@ -26,22 +26,22 @@ pub last_there : {X : Type 0} (xs : List X) (v : X) → slice_get (xs ++ v ∷ [
 last_there [] v = refl
 last_there (x ∷ xs) v = last_there xs v
 
-pub go_on_too : (vs : List Verdict) (v : Verdict) → all_go_on vs → goes_on_behind v ≡ true → all_go_on (vs ++ v ∷ [])
+pub go_on_too : (vs : List Verdict) (v : Verdict) → EachGoesOn vs → goes_on_behind v ≡ true → EachGoesOn (vs ++ v ∷ [])
 go_on_too vs v all goes i w is = elim (last_or vs v i w is) [
   | inl there ↦ all i w there
   | inr last ↦ subst (λ (x : Verdict). goes_on_behind x ≡ true) last.1 goes
 ]
 
 module _ (e : LeanEpoch) (b : ℕ) where
-  pub told_none : IsTold e b []
+  pub told_none : AreTold e b []
   told_none = record {
     each = λ i v is. absurd (cc is);
     onward = λ i v is more. absurd (cc is);
     few = omega arith;
   }
 
-  pub told_more : (vs : List Verdict) → IsTold e b vs → all_go_on vs → length vs ≤ size_in e b → GoesOnTo e.key (begin_in e b + length vs) →
-      (v : Verdict) → Says e.key v (verdict_at e.key (begin_in e b + length vs)) → IsTold e b (vs ++ v ∷ [])
+  pub told_more : (vs : List Verdict) → AreTold e b vs → EachGoesOn vs → length vs ≤ size_in e b → GoesOnTo e.key (begin_in e b + length vs) →
+      (v : Verdict) → Says e.key v (verdict_at e.key (begin_in e b + length vs)) → AreTold e b (vs ++ v ∷ [])
   told_more vs told all low goes v says = record {
     each = λ i w is. elim (last_or vs v i w is) [
       | inl there ↦ told.each i w there

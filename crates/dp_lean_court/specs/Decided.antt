@@ -1,5 +1,5 @@
 -- What is decided of the iterations of a batch, one by one.
-use Rattle.std.specs.Prelude.{◌≡◌, List, [], ◌∷◌, ◌++◌, ℤ, length, take, drop, sum_by}
+use Rattle.std.specs.Prelude.{◌≡◌, ◌⊎◌, List, [], ◌∷◌, ◌++◌, ℤ, take, drop}
 use Rattle.dp_base.specs.declared.StoreOf.{StoreOf}
 use Rattle.dp_judge.specs.declared.verdict.Verdict.{Verdict}
 use Rattle.dp_judge.specs.declared.verdict.Verdict.TheVariants.{Clean, Unclean, NoMemory}
@@ -30,15 +30,9 @@ module _ (t : ToldBatch) where
   abbrev pub left_to_give : List Verdict
   left_to_give = cleans ++ ending t.end
 
-  -- None was given yet, and each store and print is a part's.
-  pub record IsOpen : Type 0 where
-    pub given : t.given ≡ 0
-    pub stores_given : t.stores_given ≡ 0
-    pub prints_given : t.prints_given ≡ 0
-    pub stores : sum_by (λ (p : Part). p.stores) t.parts ≡ length t.stores
-    pub prints : sum_by (λ (p : Part). p.prints) t.parts ≡ length t.prints
-
 -- The verdict is the next one, and those behind it are left. Or memory was wanting for it, and none is left.
-abbrev pub IsNext : ToldBatch → ToldBatch → Verdict → Type 0
-IsNext old new NoMemory = (v : Verdict) × (rest : List Verdict) × (left_to_give old ≡ v ∷ rest) × (left_to_give new ≡ [])
-IsNext old new v = left_to_give old ≡ v ∷ left_to_give new
+pub record IsNext (old new : ToldBatch) (v : Verdict) : Type 0 where
+  pub first : Verdict
+  pub rest : List Verdict
+  pub left : left_to_give old ≡ first ∷ rest
+  pub given : ((v ≡ first) × (left_to_give new ≡ rest)) ⊎ ((v ≡ NoMemory) × (left_to_give new ≡ []))

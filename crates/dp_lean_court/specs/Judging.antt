@@ -4,7 +4,7 @@ use Rattle.dp_net.specs.NetVerdicts.{GoesOnTo}
 use Rattle.dp_lean_region.specs.LeanEpoch.{LeanEpoch, IsLeanEpoch, HasJudgeLaws, begin_in, size_in}
 use Rattle.dp_lean_machine.specs.declared.batch.BatchStatus.{BatchStatus}
 use Rattle.dp_lean_machine.specs.declared.batch.BatchStatus.TheVariants.{Going}
-use Rattle.dp_lean_court.specs.Verdicts.{IsTold, Stands, all_go_on}
+use Rattle.dp_lean_court.specs.Verdicts.{AreTold, Stands, EachGoesOn}
 use Rattle.dp_lean_court.specs.Decided.{cleans, left_to_give}
 use Rattle.dp_lean_court.specs.declared.court.LeanCourt.{LeanCourt}
 use Rattle.dp_lean_court.specs.declared.told.ToldBatch.{ToldBatch}
@@ -19,6 +19,6 @@ pub record Judges (t : LeanCourt) (e : LeanEpoch) (b : ℕ) : Type 0 where
 -- What is told are the verdicts on the batch, and the judging stands behind its clean iterations. Where the batch's iterations go on,
 -- and the epoch does behind each verdict, there is one for each, and the next batch is judged.
 pub record Gives (court : LeanCourt) (e : LeanEpoch) (b : ℕ) (status : BatchStatus) (t : ToldBatch) : Type 0 where
-  pub told : IsTold e b (left_to_give t)
+  pub told : AreTold e b (left_to_give t)
   pub stands : Stands e (begin_in e b + length (cleans t)) court.bench.left court.bench.cells
-  pub next : status ≡ Going → all_go_on (left_to_give t) → (length (left_to_give t) ≡ size_in e b) × Judges court e (suc b)
+  pub next : status ≡ Going → EachGoesOn (left_to_give t) → (length (left_to_give t) ≡ size_in e b) × Judges court e (suc b)

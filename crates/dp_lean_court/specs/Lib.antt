@@ -1,5 +1,4 @@
 pub mod Decided
 pub mod Verdicts
 pub mod Judging
-pub mod Within
-pub mod Deciding
+pub mod steps

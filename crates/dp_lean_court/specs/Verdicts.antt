@@ -15,11 +15,11 @@ pub record Stands (e : LeanEpoch) (n spare : ℕ) (memory : List ℤ) : Type 0 w
 
 -- These are the verdicts on the epoch's batch b, up to the first that doesn't go on, or behind which nothing came. Where memory was wanting
 -- there may be one more than the batch has iterations.
-pub record IsTold (e : LeanEpoch) (b : ℕ) (vs : List Verdict) : Type 0 where
+pub record AreTold (e : LeanEpoch) (b : ℕ) (vs : List Verdict) : Type 0 where
   pub each : (i : ℕ) (v : Verdict) → slice_get vs i ≡ Some v → GoesOnTo e.key (begin_in e b + i) × Says e.key v (verdict_at e.key (begin_in e b + i))
   pub onward : (i : ℕ) (v : Verdict) → slice_get vs i ≡ Some v → suc i < length vs → goes_on_behind v ≡ true
   pub few : length vs ≤ suc (size_in e b)
 
 -- the epoch goes on behind each of these
-abbrev pub all_go_on : List Verdict → Type 0
-all_go_on vs = (i : ℕ) (v : Verdict) → slice_get vs i ≡ Some v → goes_on_behind v ≡ true
+abbrev pub EachGoesOn : List Verdict → Type 0
+EachGoesOn vs = (i : ℕ) (v : Verdict) → slice_get vs i ≡ Some v → goes_on_behind v ≡ true

@@ -1,6 +1,6 @@
 //! The judging of an epoch over columns, batch after batch.
 ghost use Rattle.std.specs.Prelude.{◌≡◌};
-ghost use Rattle.dp_lean_court.specs.Deciding.{end_at, end_by};
+ghost use Rattle.dp_lean_court.specs.steps.Deciding.{end_of_status, end_of_decision};
 
 use crate::judging::{Bench, Decision};
 use crate::readers::{keep_rooms, readers_of};
@@ -32,7 +32,7 @@ impl Drop for LeanCourt {
 
 /// What stands behind clean iterations of a batch: behind all of them what its status says.
 fn end_of(decision: Decision, status: BatchStatus) -> ToldEnd
-    ensures { result ≡ end_by decision status }
+    ensures { result ≡ end_of_decision decision status }
 {
     match decision {
         Decision::Goes => end_behind(status),
@@ -44,7 +44,7 @@ fn end_of(decision: Decision, status: BatchStatus) -> ToldEnd
 
 /// What stands behind all iterations of a batch that came to their end.
 fn end_behind(status: BatchStatus) -> ToldEnd
-    ensures { result ≡ end_at status }
+    ensures { result ≡ end_of_status status }
 {
     match status {
         BatchStatus::Going => ToldEnd::Over,
@@ -61,12 +61,13 @@ impl LeanCourt {
     ghost use Rattle.dp_lean_region.specs.LeanEpoch.{LeanEpoch, IsLeanEpoch, HasJudgeLaws};
     ghost use Rattle.dp_lean_machine.specs.Sent.{AsStatus, IsSent};
     ghost use Rattle.dp_lean_court.specs.Judging.{Judges, Gives};
-    ghost use Rattle.dp_lean_court.specs.Decided.{IsOpen, cleans};
-    ghost use Rattle.dp_lean_court.specs.Within.{CameTo};
+    ghost use Rattle.dp_lean_court.specs.Decided.{cleans};
+    ghost use Rattle.dp_lean_court.specs.steps.Adding.{IsUngiven};
+    ghost use Rattle.dp_lean_court.specs.steps.Within.{CameTo};
 
     /// The judging where an epoch begins: in this memory, with the steps that are left of the fuel.
     pub fn new(alloc: Global, base: Cells, left: u64) -> LeanCourt
-        ensures { (e : LeanEpoch) → IsLeanEpoch e → HasJudgeLaws e → LeanJudges e.key 0 e.key.base → e.key.base ≡ base → left ≡ e.key.fuel - e.key.steps → Judges result e 0 }
+        ensures begins { (e : LeanEpoch) → IsLeanEpoch e → HasJudgeLaws e → LeanJudges e.key 0 e.key.base → e.key.base ≡ base → left ≡ e.key.fuel - e.key.steps → Judges result e 0 }
     {
         LeanCourt {
             alloc,
@@ -77,7 +78,7 @@ impl LeanCourt {
 
     /// What is decided of the iterations of a batch that came to their end, up to the first behind which none follows; they are told.
     fn decide<'p>(&mut self, batch: &LeanBatch<'p>, told: &mut ToldBatch) -> Decision
-        requires ungiven { IsOpen told.old }
+        requires ungiven { IsUngiven told.old }
         ensures came { (e : LeanEpoch) (b : ℕ) (ends : NetStatus) → AsStatus batch.now.status ends → Judges self.old e b → IsSent e (length e.key.plan.stages) b batch.now →
             cleans told.old ≡ [] → CameTo e b batch.now.iterations result self.new.bench.left self.new.bench.cells (cleans told.new) }
     {
@@ -99,7 +100,7 @@ impl LeanCourt {
 
     /// .. unless memory was wanting for the batch.
     fn decide_known<'p>(&mut self, batch: &LeanBatch<'p>, told: &mut ToldBatch) -> Decision
-        requires ungiven { IsOpen told.old }
+        requires ungiven { IsUngiven told.old }
         ensures came { (e : LeanEpoch) (b : ℕ) → Judges self.old e b → IsSent e (length e.key.plan.stages) b batch.now →
             cleans told.old ≡ [] → CameTo e b batch.now.iterations result self.new.bench.left self.new.bench.cells (cleans told.new) }
     {

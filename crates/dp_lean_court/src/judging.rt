@@ -3,9 +3,10 @@ ghost use Rattle.std.specs.Prelude.{◌≡◌, ◌<◌, ◌≤◌, ℕ};
 ghost use Rattle.dp_lean_judge.specs.Ready.{AllKept};
 ghost use Rattle.dp_lean_judge.specs.Collecting.{undone};
 ghost use Rattle.dp_lean_region.specs.LeanEpoch.{LeanEpoch};
-ghost use Rattle.dp_lean_court.specs.Decided.{IsOpen, cleans};
-ghost use Rattle.dp_lean_court.specs.Within.{CameIn, CameTo, Comes, JudgesBy, Within};
-ghost use Rattle.dp_lean_court.specs.Deciding.{Commits, Looks, going_by};
+ghost use Rattle.dp_lean_court.specs.Decided.{cleans};
+ghost use Rattle.dp_lean_court.specs.steps.Adding.{IsUngiven};
+ghost use Rattle.dp_lean_court.specs.steps.Within.{CameIn, CameTo, Comes, JudgesBy, Within};
+ghost use Rattle.dp_lean_court.specs.steps.Deciding.{CommitsSo, SeesAs, going_by};
 ghost use Rattle.dp_lean_court.specs.declared.judging.Decision.TheVariants as decision;
 
 use crate::fuel::left_behind;
@@ -97,7 +98,7 @@ impl Bench {
         ensures kept { AllKept readers.new ready.now.entries }
         ensures left { self.new.left ≡ self.old.left }
         ensures before { undone self.new.collected.before self.new.cells ≡ self.old.cells }
-        ensures judged { Looks ready.now self.old.cells readers.old result self.new.cells readers.new self.new.collected }
+        ensures judged { SeesAs ready.now self.old.cells readers.old result self.new.cells readers.new self.new.collected }
     {
         let Bench {
             cells,
@@ -116,8 +117,8 @@ impl Bench {
         told: &mut ToldBatch,
     ) -> Decision
         requires less { after ≤ self.old.left }
-        requires ungiven { IsOpen told.old }
-        ensures { Commits locals.now after closing self.old self.new told.old told.new result }
+        requires ungiven { IsUngiven told.old }
+        ensures { CommitsSo locals.now after closing self.old self.new told.old told.new result }
     {
         let steps = self.left - after;
         let stores = self.collected.stores.as_slice();
@@ -145,9 +146,9 @@ impl Bench {
         told: &mut ToldBatch,
     ) -> Decision
         requires kept { AllKept readers.old tables.ready.now.entries }
-        requires ungiven { IsOpen told.old }
+        requires ungiven { IsUngiven told.old }
         ensures kept { AllKept readers.new tables.entry.ready.now.entries }
-        ensures ungiven { result ≡ decision.Goes → IsOpen told.new }
+        ensures ungiven { result ≡ decision.Goes → IsUngiven told.new }
         ensures comes { (e : LeanEpoch) (b n : ℕ) → CameIn e b n stages.now → JudgesBy e tables.entry → place < n →
             Within e b n place self.old.left self.old.cells readers.old (cleans told.old) → Comes e b n place result self.new.left self.new.cells readers.new (cleans told.new) }
     {
@@ -180,7 +181,7 @@ impl Bench {
         told: &mut ToldBatch,
     ) -> Decision
         requires kept { AllKept readers.old tables.ready.now.entries }
-        requires ungiven { IsOpen told.old }
+        requires ungiven { IsUngiven told.old }
         ensures comes { (e : LeanEpoch) (b : ℕ) → CameIn e b iterations stages.now → JudgesBy e tables.entry →
             Within e b iterations 0 self.old.left self.old.cells readers.old (cleans told.old) → CameTo e b iterations result self.new.left self.new.cells (cleans told.new) }
     {

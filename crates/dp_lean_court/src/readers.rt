@@ -1,6 +1,6 @@
 //! The readers of what the stages told of a batch.
 ghost use Rattle.std.specs.Prelude.{◌≡◌, map, IfOk};
-ghost use Rattle.dp_lean_court.specs.Within.{read_of};
+ghost use Rattle.dp_lean_court.specs.steps.Within.{read_of};
 
 use dp_columns::{Reader, ReaderRoom};
 use dp_lean_machine::StageColumns;

@@ -1,7 +1,10 @@
 //! What is decided of a batch, verdict by verdict.
 ghost use Rattle.std.specs.Prelude.{◌≡◌, ◌+◌, ◌++◌, ◌∷◌, [], drop, length, min, slice_get, take, ◌≤◌, Some, IfOk, MatchOption, OnErr, OnOk};
+ghost use Rattle.std.specs.List.{list_all};
+ghost use Rattle.dp_judge.specs.Told.{goes_on_behind};
 ghost use Rattle.dp_judge.specs.declared.verdict.Verdict.TheVariants as verdict;
-ghost use Rattle.dp_lean_court.specs.Decided.{IsNext, IsOpen, cleans, ending, left_to_give};
+ghost use Rattle.dp_lean_court.specs.Decided.{IsNext, cleans, ending, left_to_give};
+ghost use Rattle.dp_lean_court.specs.steps.Adding.{IsUngiven, none_closing};
 
 use dp_base::StoreOf;
 use dp_judge::{Clean, Verdict};
@@ -58,6 +61,29 @@ impl Drop for ToldBatch {
     }
 }
 
+/// None of these leaves the region.
+fn none_closes(parts: &[Part]) -> bool
+    ensures { result ≡ none_closing parts.now }
+{
+    for part in parts {
+        if part.closing {
+            return false;
+        }
+    }
+    true
+}
+
+/// Nothing stands behind the clean iterations.
+fn is_over(end: ToldEnd) -> bool
+    ensures { result ≡ list_all goes_on_behind (ending end) }
+{
+    match end {
+        ToldEnd::Over => true,
+        ToldEnd::Unclean => false,
+        ToldEnd::NoMemory => false,
+    }
+}
+
 /// So many items from a place on.
 fn part_of<T>(items: &[T], from: usize, count: usize) -> &[T]
     ensures { result.now ≡ take count (drop from items.now) }
@@ -78,7 +104,7 @@ fn place_behind(from: usize, count: usize, places: usize) -> usize
 impl ToldBatch {
     /// No verdict. It takes no memory until there is one.
     pub fn new(alloc: Global) -> ToldBatch
-        ensures { left_to_give result ≡ [] }
+        ensures left { left_to_give result ≡ [] }
     {
         ToldBatch {
             alloc,
@@ -96,7 +122,7 @@ impl ToldBatch {
     pub(crate) fn clear(&mut self)
         ensures cleans { cleans self.new ≡ [] }
         ensures left { left_to_give self.new ≡ [] }
-        ensures ungiven { IsOpen self.new }
+        ensures ungiven { IsUngiven self.new }
     {
         self.stores.clear();
         self.prints.clear();
@@ -115,8 +141,8 @@ impl ToldBatch {
         steps: u64,
         closing: bool,
     ) -> Result<(), NoMemory>
-        requires { IsOpen self.old }
-        ensures ungiven { OnOk result (IsOpen self.new) }
+        requires { IsUngiven self.old }
+        ensures ungiven { OnOk result (IsUngiven self.new) }
         ensures more { OnOk result (cleans self.new ≡ cleans self.old ++ verdict.Clean (record { stores = stores.now; prints = prints.now; steps = steps; closing = closing }) ∷ []) }
         ensures same { OnErr result (cleans self.new ≡ cleans self.old) }
     {
@@ -137,6 +163,15 @@ impl ToldBatch {
         ensures left { left_to_give self.new ≡ cleans self.old ++ ending end }
     {
         self.end = end;
+    }
+
+    /// The epoch goes on behind each verdict that wasn't given yet.
+    pub fn goes_on(&self) -> bool
+        ensures { result ≡ list_all goes_on_behind (left_to_give self.now) }
+    {
+        let parts = self.parts.as_slice();
+        let given = self.given.min(parts.len());
+        none_closes(&parts[given..]) && is_over(self.end)
     }
 
     /// What is carried of the next clean iteration.

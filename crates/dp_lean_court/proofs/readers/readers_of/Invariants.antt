@@ -1,5 +1,5 @@
 use Rattle.std.proofs.Common.{◌≡◌, ◌++◌, drop, map}
-use Rattle.dp_lean_court.specs.Within.{read_of}
+use Rattle.dp_lean_court.specs.steps.Within.{read_of}
 use Rattle.dp_lean_court.proofs.readers.readers_of.Given as goal
 
 abbrev pub invariant-loop-columns : goal.invariant-loop-columns

@@ -4,7 +4,7 @@ use Rattle.dp_lean_region.specs.Judging.{IsJudging}
 use Rattle.dp_lean_region.specs.Line.{line_kinds, program_of, plan_of}
 use Rattle.dp_lean_region.specs.declared.line.Line.{Line}
 use Rattle.dp_lean_court.specs.Decided.{cleans}
-use Rattle.dp_lean_court.specs.Within.{CleanTo}
+use Rattle.dp_lean_court.specs.steps.Within.{CleanTo}
 use Rattle.dp_lean_court.proofs.Beginning.{kept_there, judges_by, clean_begins, decided_so}
 use Rattle.dp_lean_court.proofs.court.LeanCourt.decide.Goals as goal
 

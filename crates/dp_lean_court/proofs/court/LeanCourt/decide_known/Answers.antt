@@ -3,7 +3,7 @@ use Rattle.dp_net.specs.NetPackets.{NetGoing, NetClosing, NetVoid}
 use Rattle.dp_judge.specs.declared.verdict.Verdict.{Verdict}
 use Rattle.dp_lean_machine.specs.Sent.{AsStatus}
 use Rattle.dp_lean_machine.specs.declared.batch.BatchStatus.{BatchStatus}
-use Rattle.dp_lean_court.specs.Within.{CleanTo}
+use Rattle.dp_lean_court.specs.steps.Within.{CleanTo}
 use Rattle.dp_lean_court.proofs.Beginning.{clean_begins}
 use Rattle.dp_lean_court.proofs.court.LeanCourt.decide_known.Goals as goal
 

@@ -1,6 +1,6 @@
 use Rattle.std.proofs.Common.{◌≡◌, refl, subst, arith, ℕ, suc, ◌+◌}
 use Rattle.dp_lean_court.specs.Decided.{cleans}
-use Rattle.dp_lean_court.specs.Within.{CleanTo, Within}
+use Rattle.dp_lean_court.specs.steps.Within.{CleanTo, Within}
 use Rattle.dp_lean_court.proofs.judging.Bench.decide_all.Goals as goal
 
 pub loop-place-init : goal.loop-place-init

@@ -19,7 +19,7 @@ use Rattle.dp_lean_region.specs.LeanEpoch.{LeanEpoch, IsLeanEpoch, HasJudgeLaws,
 use Rattle.dp_lean_region.specs.declared.line.JudgeTables.{JudgeTables}
 use Rattle.dp_lean_machine.specs.Held.{held_in}
 use Rattle.dp_lean_machine.specs.declared.batch.StageColumns.{StageColumns}
-use Rattle.dp_lean_court.specs.Verdicts.{IsTold, Stands, all_go_on}
+use Rattle.dp_lean_court.specs.Verdicts.{AreTold, Stands, EachGoesOn}
 use Rattle.dp_lean_court.specs.declared.judging.Decision.{Decision}
 use Rattle.dp_lean_court.specs.declared.judging.Decision.TheVariants.{Goes, Closes, Unclean, NoMemory}
 
@@ -56,8 +56,8 @@ module _ (e : LeanEpoch) (b : ℕ) where
     pub few : j ≤ size_in e b
     pub goes : GoesOnTo e.key (begin_in e b + j)
     pub stands : Stands e (begin_in e b + j) left cells
-    pub told : IsTold e b vs
-    pub onward : all_go_on vs
+    pub told : AreTold e b vs
+    pub onward : EachGoesOn vs
     pub count : length vs ≡ j
 
   -- .. and of n that came the readers have left what the others tell
@@ -67,9 +67,9 @@ module _ (e : LeanEpoch) (b : ℕ) where
 
   -- the last of those that are clean and told leaves the region
   pub record Closed (left : ℕ) (cells : List ℤ) (vs : List Verdict) : Type 0 where
-    pub told : IsTold e b vs
+    pub told : AreTold e b vs
     pub stands : Stands e (begin_in e b + length vs) left cells
-    pub closes : all_go_on vs → ⊥
+    pub closes : EachGoesOn vs → ⊥
 
   -- behind those that are clean and told is one that is to be executed again
   pub record Broken (left : ℕ) (cells : List ℤ) (told : List Verdict) : Type 0 where

@@ -20,7 +20,8 @@ use Rattle.dp_lean_judge.specs.declared.judge.LeanJudged.{LeanJudged}
 use Rattle.dp_lean_judge.specs.declared.ready.Ready.{Ready}
 use Rattle.dp_lean_machine.specs.declared.batch.BatchStatus.{BatchStatus}
 use Rattle.dp_lean_machine.specs.declared.batch.BatchStatus.TheVariants as status
-use Rattle.dp_lean_court.specs.Decided.{IsOpen, cleans}
+use Rattle.dp_lean_court.specs.Decided.{cleans}
+use Rattle.dp_lean_court.specs.steps.Adding.{IsUngiven}
 use Rattle.dp_lean_court.specs.declared.judging.Bench.{Bench}
 use Rattle.dp_lean_court.specs.declared.judging.Decision.{Decision}
 use Rattle.dp_lean_court.specs.declared.judging.Decision.TheVariants.{Goes, Closes, Unclean, NoMemory}
@@ -34,8 +35,8 @@ going_by true = Closes
 going_by false = Goes
 
 -- The answer is the end of each code that is ready so, from this memory and with what these readers have left; or memory was wanting.
-abbrev pub Looks : Ready → List ℤ → List Left → LeanJudged → List ℤ → List Left → Collected → Type 0
-Looks ready cells readers answer cells_new readers_new collected =
+abbrev pub SeesAs : Ready → List ℤ → List Left → LeanJudged → List ℤ → List Left → Collected → Type 0
+SeesAs ready cells readers answer cells_new readers_new collected =
     (p : Program) (plan : Plan) (code : List LeanOp) (queues : ℕ → List Told) (loads : ℕ → List (List Load)) →
     IsReady p plan code ready → ShowsQueues p plan readers queues loads →
     (n : ℕ) (end : JudgeEnd) → judge_flat p plan code n (judge_begin cells queues loads) ≡ Some end →
@@ -45,7 +46,7 @@ Looks ready cells readers answer cells_new readers_new collected =
 pub record Committed (locals : List CellId) (after : ℕ) (closing : Bool) (old new : Bench) (told_old told_new : ToldBatch) : Type 0 where
   pub left : new.left ≡ after
   pub cells : new.cells ≡ clear_cells locals old.cells
-  pub ungiven : IsOpen told_new
+  pub ungiven : IsUngiven told_new
   pub told : cleans told_new
       ≡ cleans told_old ++ verdict.Clean (record { stores = old.collected.stores; prints = old.collected.prints; steps = old.left - after; closing = closing }) ∷ []
 
@@ -56,22 +57,22 @@ pub record Undone (old new : Bench) (told_old told_new : ToldBatch) : Type 0 whe
   pub told : cleans told_new ≡ cleans told_old
 
 -- an iteration that is clean is committed, or memory is wanting for that
-abbrev pub Commits : List CellId → ℕ → Bool → Bench → Bench → ToldBatch → ToldBatch → Decision → Type 0
-Commits locals after closing old new told_old told_new Goes = (closing ≡ false) × Committed locals after closing old new told_old told_new
-Commits locals after closing old new told_old told_new Closes = (closing ≡ true) × Committed locals after closing old new told_old told_new
-Commits locals after closing old new told_old told_new NoMemory = Undone old new told_old told_new
-Commits locals after closing old new told_old told_new Unclean = ⊥
+abbrev pub CommitsSo : List CellId → ℕ → Bool → Bench → Bench → ToldBatch → ToldBatch → Decision → Type 0
+CommitsSo locals after closing old new told_old told_new Goes = (closing ≡ false) × Committed locals after closing old new told_old told_new
+CommitsSo locals after closing old new told_old told_new Closes = (closing ≡ true) × Committed locals after closing old new told_old told_new
+CommitsSo locals after closing old new told_old told_new NoMemory = Undone old new told_old told_new
+CommitsSo locals after closing old new told_old told_new Unclean = ⊥
 
 -- what stands behind all iterations of a batch that came to their end
-abbrev pub end_at : BatchStatus → ToldEnd
-end_at status.Going = ends.Over
-end_at status.Closing = ends.Over
-end_at status.Void = ends.Unclean
-end_at status.NoMemory = ends.NoMemory
+abbrev pub end_of_status : BatchStatus → ToldEnd
+end_of_status status.Going = ends.Over
+end_of_status status.Closing = ends.Over
+end_of_status status.Void = ends.Unclean
+end_of_status status.NoMemory = ends.NoMemory
 
 -- .. behind those that are clean, by the last decision
-abbrev pub end_by : Decision → BatchStatus → ToldEnd
-end_by Goes s = end_at s
-end_by Closes s = ends.Over
-end_by Unclean s = ends.Unclean
-end_by NoMemory s = ends.NoMemory
+abbrev pub end_of_decision : Decision → BatchStatus → ToldEnd
+end_of_decision Goes s = end_of_status s
+end_of_decision Closes s = ends.Over
+end_of_decision Unclean s = ends.Unclean
+end_of_decision NoMemory s = ends.NoMemory
