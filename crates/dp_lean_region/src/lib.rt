@@ -4,8 +4,17 @@
 //! `specs/` says what is known of an epoch of such a region. The laws are that this is so of each.
 #![tactic(auto)]
 
+mod capping;
+mod counting;
+mod feeding;
+mod judging;
+mod keeping;
+mod law;
 mod line;
+mod locals;
 mod region;
+mod stages;
+mod stand_in;
 
 pub use line::{JudgeTables, Line, ReadyStage};
 pub use region::RegionTables;

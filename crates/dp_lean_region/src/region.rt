@@ -9,10 +9,16 @@ ghost use Rattle.dp_lean_region.specs.Judging.{IsJudging};
 ghost use Rattle.dp_lean_region.specs.Line.{IsEpochOf, RunsIn};
 ghost use Rattle.dp_lean_region.specs.Laws.{AreLawful};
 
+use crate::judging::{JudgeMade, judge_of};
+use crate::keeping::plan_kinds;
+use crate::law::{epochs_are_lawful, given_plans_fit};
+use crate::locals::local_cells;
+use crate::stages::{Lent, StageTables, stage_tables, staged};
 use crate::{JudgeTables, Line, ReadyStage};
+use dp_base::{CellId, NoMemory, Row};
 use dp_columns::ColumnKind;
+use dp_lean_code::LeanTables;
 use dp_plan::Plan;
-use dp_room::{NoMemory, Row};
 use dp_tree::Program;
 use std::alloc::Global;
 use std::marker::Model;
@@ -21,10 +27,15 @@ use std::marker::Model;
 pub struct RegionTables<'p> {
     program: &'p Program,
     plan: &'p Plan,
-    /// How many iterations go together at most.
-    cap: u64,
-    /// The judge's code.
-    judge: dp_lean_judge::Ready,
+    /// The region's first site: its condition.
+    first: u32,
+    /// The kinds of each stage's columns.
+    kinds: Row<Row<ColumnKind>>,
+    /// One for each stage, from the first on.
+    stages: Row<StageTables>,
+    /// The cells of the region's body locals.
+    locals: Row<CellId>,
+    judge: JudgeMade,
 }
 
 // By hand, so that a crate above doesn't prove again how all that the tables hold is dropped.
@@ -33,7 +44,10 @@ impl<'p> Drop for RegionTables<'p> {
         let RegionTables {
             program: _,
             plan: _,
-            cap: _,
+            first: _,
+            kinds: _,
+            stages: _,
+            locals: _,
             judge: _,
         } = self;
     }
@@ -44,14 +58,15 @@ impl<'p> Model for RegionTables<'p> {
     ghost use Rattle.dp_tree.specs.contracts.Stmt as stmt;
     ghost use Rattle.std.specs.Coded.{codes};
     ghost use Rattle.dp_lean_region.specs.Region.{LeanRegion};
+    ghost use Rattle.dp_lean_region.specs.steps.Tables.{IsRegion};
 
     ghost Value = { LeanRegion };
 
     ghost coded = { Prim.hlevel (codes, expr.the_row.coded, stmt.the_row.coded) };
 
-    ghost view = { λ r. record { program = r.program.now; plan = r.plan.now; cap = r.cap } };
+    ghost view = { λ r. record { program = r.program.now; plan = r.plan.now; cap = r.judge.cap } };
 
-    ghost invariant = { λ r. ⊥ };
+    ghost invariant = { λ r. IsRegion r.program.now r.plan.now r.first r.kinds r.stages r.locals r.judge };
 }
 
 impl<'p> RegionTables<'p> {
@@ -63,11 +78,23 @@ impl<'p> RegionTables<'p> {
     ) -> Result<RegionTables<'p>, NoMemory>
         requires inlined { IsInlined program.now }
         requires is_plan { IsPlan program.now plan.now }
-        requires counted { 1 ≤ plan.now.region }
-        requires known { plan.now.region ≤ length program.now.regions }
         ensures { IfOk result (λ r. (r.program ≡ program.now) × (r.plan ≡ plan.now)) }
     {
-        Err(NoMemory)
+        given_plans_fit(program, plan);
+        let tables = LeanTables::of(alloc, program, plan)?;
+        let kinds = plan_kinds(alloc, program, plan, &tables)?;
+        let stages = stage_tables(alloc, program, plan, &tables, kinds.as_slice())?;
+        let judge = judge_of(alloc, program, plan, &tables, kinds.as_slice())?;
+        let locals = local_cells(alloc, plan.region, program.vars.as_slice())?;
+        Ok(RegionTables {
+            program,
+            plan,
+            first: plan.first_site(program),
+            kinds,
+            stages,
+            locals,
+            judge,
+        })
     }
 
     /// The program.
@@ -91,7 +118,7 @@ impl<'p> RegionTables<'p> {
         ensures value { result ≡ self.now.cap }
         ensures cap { IsCap self.now.program self.now.plan result }
     {
-        self.cap
+        self.judge.cap
     }
 
     /// The line of the region's epochs, with this input.
@@ -111,16 +138,25 @@ impl<'p> RegionTables<'p> {
         ensures runs { (e : LeanEpoch) → IsEpochOf e self.now.program self.now.plan input.now → IfSome result (RunsIn e place) }
         ensures absent { IfNone result (length self.now.plan.stages ≤ place) }
     {
-        let _cap = self.cap;
-        None
+        let lent = Lent {
+            program: self.program(),
+            plan: self.plan(),
+            first: self.first,
+            kinds: self.kinds.as_slice(),
+            locals: self.locals.as_slice(),
+            input,
+        };
+        match self.stages.get(place) {
+            Some(stage) => Some(staged(lent, stage, place)),
+            None => None,
+        }
     }
 
     /// The kinds of each stage's columns.
     pub(crate) fn kinds(&self) -> &[Row<ColumnKind>]
         ensures { result.now ≡ plan_kinds self.now.program self.now.plan }
     {
-        let _cap = self.cap;
-        &[]
+        self.kinds.as_slice()
     }
 
     /// What iterations are judged by.
@@ -128,8 +164,8 @@ impl<'p> RegionTables<'p> {
         ensures { IsJudging self.now.program self.now.plan result }
     {
         JudgeTables {
-            ready: &self.judge,
-            locals: &[],
+            ready: &self.judge.ready,
+            locals: self.locals.as_slice(),
         }
     }
 
@@ -137,6 +173,6 @@ impl<'p> RegionTables<'p> {
     pub(crate) fn epochs_are_lawful(&self)
         ensures { AreLawful self.now.program self.now.plan self.now.cap }
     {
-        let _cap = self.cap;
+        epochs_are_lawful(self.program, self.plan);
     }
 }

@@ -1,0 +1,4 @@
+pub mod Fed
+pub mod KeptAmong
+pub mod StandIn
+pub mod Tables
