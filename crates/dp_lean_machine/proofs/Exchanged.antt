@@ -1,7 +1,6 @@
 -- Columns that take the place of others among those of the stages.
 use Rattle.dp_semantics.proofs.Names.{◌≡◌, refl, sym, ap, ◌∙◌, arith, ℕ, zero, suc, ◌<◌, List, [], ◌∷◌, ◌++◌, length, map, take, Some, slice_get, slice_set, get_or}
 use Rattle.dp_columns.specs.Left.{Left}
-use Rattle.dp_lean.specs.Queues.{Told}
 use Rattle.dp_lean_epoch.specs.LeanBatch.{no_columns}
 use Rattle.dp_lean_machine.specs.Held.{kinds_in, held_in}
 use Rattle.dp_lean_machine.specs.Within.{read_of}

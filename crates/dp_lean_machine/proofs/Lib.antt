@@ -1,7 +1,7 @@
 pub mod Statuses
+pub mod Settling
 pub mod Steps
 pub mod AllRan
-pub mod Giving
 pub mod Exchanged
 pub mod SentOn
 pub mod Over

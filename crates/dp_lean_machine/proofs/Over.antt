@@ -1,5 +1,5 @@
 -- Where a stage begins a batch.
-use Rattle.dp_semantics.proofs.Names.{◌≡◌, inr, refl, sym, ap, ◌∙◌, subst, arith, ℕ, suc, ◌+◌, ◌-◌, ◌<◌, List, [], ◌∷◌, ℤ, map, take, Some, slice_get, slice_set, get_or}
+use Rattle.dp_semantics.proofs.Names.{◌≡◌, refl, sym, ap, ◌∙◌, subst, arith, ℕ, suc, ◌+◌, ◌-◌, List, [], ◌∷◌, ℤ, map, take, Some, slice_get, slice_set, get_or}
 use Rattle.dp_columns.specs.declared.ColumnKind.{ColumnKind}
 use Rattle.dp_columns.specs.Columned.{Columned, nothing_kept}
 use Rattle.dp_columns.specs.Left.{Left}
@@ -7,13 +7,13 @@ use Rattle.dp_lean_turn.specs.declared.Turn.{Turn}
 use Rattle.dp_lean_turn.specs.Ending.{CanTurn}
 use Rattle.dp_lean_turn.specs.Left.{AreLeft, all_kinds}
 use Rattle.dp_lean_epoch.specs.Coming.{Coming, LeanStands}
-use Rattle.dp_lean_epoch.specs.LeanBatch.{Stood}
-use Rattle.dp_lean_machine.specs.LeanEpoch.{LeanEpoch, marks_in, begin_in}
-use Rattle.dp_lean_machine.specs.Line.{RunsIn}
+use Rattle.dp_lean_region.specs.LeanEpoch.{LeanEpoch, marks_in, begin_in}
+use Rattle.dp_lean_region.specs.Line.{RunsIn}
 use Rattle.dp_lean_machine.specs.Held.{kinds_in}
-use Rattle.dp_lean_machine.specs.Ready.{CanRead, IsStageReady}
-use Rattle.dp_lean_machine.specs.Within.{own_kinds, read_of, Within, Comes}
-use Rattle.dp_lean_machine.specs.declared.line.ReadyStage.{ReadyStage}
+use Rattle.dp_lean_region.specs.Ready.{CanRead, IsStageReady}
+use Rattle.dp_lean_machine.specs.Within.{read_of, Within, Comes, IsDone, IsRan}
+use Rattle.dp_lean_machine.specs.declared.turning.Ran.{Ran}
+use Rattle.dp_lean_region.specs.declared.ReadyStage.{ReadyStage}
 use Rattle.dp_lean_machine.specs.declared.batch.StageColumns.{StageColumns}
 use Rattle.dp_lean_machine.proofs.Exchanged.{take_before, kinds_get, kinds_taken}
 
@@ -57,6 +57,14 @@ begins cells e s b n r runs own own_is earlier comes t stands empty readers coun
         let all : n ≡ n - 0 = omega arith in
         subst (λ (i : ℕ). Coming (marks_in e) e.key s i (n - 0) comes.queues comes.more) first
         (subst (λ (j : ℕ). Coming (marks_in e) e.key s (begin_in e b) j comes.queues comes.more) all comes.coming)
+
+-- what the turns leave is what came of them
+pub left_so : {M : Type 0} (cells : M → List ℤ) (e : LeanEpoch) (s b : ℕ) (t : Turn M) (steps : List ℕ) (ran result : Ran) (own : StageColumns) (memory : M) →
+    result ≡ ran → memory ≡ t.memory → own ≡ record { columns = t.teller.own; steps = steps } → IsRan e s b cells t steps ran → IsDone e s b cells result own memory
+left_so {M} cells e s b t steps ran result own memory same memory_is own_is done =
+    subst (λ (x : Ran). IsDone e s b cells x own memory) (sym same)
+    (subst (λ (c : StageColumns). IsDone e s b cells ran c memory) (sym own_is)
+    (subst (λ (m : M). IsDone e s b cells ran (record { columns = t.teller.own; steps = steps }) m) (sym memory_is) done))
 
 -- what it reads is of the kinds for which it is ready
 pub can_read : (kinds : List (List ColumnKind)) (s : ℕ) (r : ReadyStage) → IsStageReady kinds s r → (xs : List StageColumns) → map kinds_in xs ≡ kinds → (was h : StageColumns) →

@@ -4,7 +4,7 @@ use Rattle.dp_net.specs.NetPackets.{NetStatus, NetGoing, NetClosing, NetVoid}
 use Rattle.dp_lean_epoch.specs.Coming.{LeanStands}
 use Rattle.dp_lean_epoch.specs.LeanBatch.{IsVersion, LeanItem, IsLeanBatch}
 use Rattle.dp_lean_epoch.specs.Steps.{feeds_itself}
-use Rattle.dp_lean_machine.specs.LeanEpoch.{LeanEpoch, IsLeanEpoch, marks_in, kept_in, begin_in}
+use Rattle.dp_lean_region.specs.LeanEpoch.{LeanEpoch, IsLeanEpoch, marks_in, kept_in, begin_in}
 use Rattle.dp_lean_machine.specs.Sent.{AsStatus, IsSent, SameTold, Unless, item_of}
 use Rattle.dp_lean_machine.specs.Kept.{KeepsBase}
 use Rattle.dp_lean_machine.specs.Standing.{Keeps}
@@ -12,7 +12,7 @@ use Rattle.dp_lean_machine.specs.declared.machine.Kept.{Kept}
 use Rattle.dp_lean_machine.specs.declared.machine.Kept.TheVariants.{Cells, Versioned, Nothing}
 use Rattle.dp_lean_machine.specs.RanFrom.{RanFrom}
 use Rattle.dp_lean_machine.specs.declared.batch.LeanBatch.{LeanBatch}
-use Rattle.dp_lean_machine.specs.Line.{IsLineOf}
+use Rattle.dp_lean_region.specs.Line.{IsLineOf}
 use Rattle.dp_lean_machine.specs.Held.{held_in}
 use Rattle.dp_lean_machine.specs.declared.batch.StageColumns.{StageColumns}
 use Rattle.dp_lean_machine.specs.declared.batch.BatchStatus.{BatchStatus}
@@ -26,7 +26,7 @@ pub goes_behind : (e : LeanEpoch) (b place : ℕ) {M : Type 0} (cells : M → Li
     IsSent e (suc place) b out × (out.status ≡ Going → LeanStands (marks_in e) e.key (suc place) (begin_in e (suc b)) (cells after))
 goes_behind e b place cells memory after version came out ran ends like is within sequential stands version_is sent =
     let r = ran ends like is within stands version_is came.version sent in
-    (r.0, λ goes. r.1 goes (ap (λ (q : Bool). not q || not (feeds_itself (marks_in e) e.key (suc place))) sequential))
+    (r.0, λ goes. r.1 goes (ap (λ (q : Bool). not q || not (feeds_itself e.key.program e.key.plan (suc place))) sequential))
 
 -- a batch that tells the same, with the same version, is sent too
 pub same_sent : (e : LeanEpoch) (s b : ℕ) (x y : LeanBatch) → SameTold x y → y.version ≡ x.version → IsSent e s b x → IsSent e s b y

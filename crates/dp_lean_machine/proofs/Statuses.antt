@@ -1,5 +1,5 @@
 -- How iterations stand at a stage, by how they stand at the one before.
-use Rattle.dp_semantics.proofs.Names.{◌≡◌, inl, inr, refl, sym, ap, ◌∙◌, subst, arith, ℕ, suc, ◌+◌, ◌<◌, ◌≤◌, ◌⊎◌, true, false, cases_lt, if◌then◌else◌}
+use Rattle.dp_semantics.proofs.Names.{◌≡◌, inl, inr, refl, ap, ◌∙◌, arith, ℕ, suc, ◌+◌, ◌<◌, ◌≤◌, ◌⊎◌, true, false, cases_lt, if◌then◌else◌}
 use Rattle.dp_net.specs.NetItems.{Marks}
 use Rattle.dp_net.specs.NetPackets.{NetStatus, NetGoing, NetClosing, NetVoid, net_status_of}
 use Rattle.dp_net.specs.Follows.{is_void}

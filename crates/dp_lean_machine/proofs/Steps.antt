@@ -1,5 +1,5 @@
 -- What one more iteration of a batch comes to at a stage.
-use Rattle.dp_semantics.proofs.Names.{◌≡◌, inl, inr, refl, sym, ap, ◌∙◌, subst, arith, ℕ, suc, ◌+◌, ◌-◌, ◌<◌, ◌≤◌, Bool, true, false, ◌⊎◌, cases_lt, List, [], ◌∷◌, ◌++◌, ℤ, length, map, Some, slice_get, sum_by, clear_locals, Program, numbers_from, first_site, stage_of, is_checked, flat_map}
+use Rattle.dp_semantics.proofs.Names.{◌≡◌, inl, inr, refl, sym, ap, ◌∙◌, subst, arith, ℕ, suc, ◌+◌, ◌-◌, ◌<◌, ◌≤◌, Bool, true, false, ◌⊎◌, cases_lt, List, [], ◌∷◌, ◌++◌, ℤ, map, sum_by, clear_locals, Program, numbers_from, flat_map}
 use Rattle.dp_base.specs.declared.CellId.{CellId}
 use Rattle.dp_plan.specs.declared.Plan.{Plan}
 use Rattle.dp_judge.specs.Locals.{clear_cells, local_cells}
@@ -7,14 +7,12 @@ use Rattle.dp_judge.proofs.LocalLemmas.{clear_local_cells}
 use Rattle.dp_net.specs.NetItems.{Item}
 use Rattle.dp_net.specs.NetPackets.{NetClosing, net_status_of}
 use Rattle.dp_lean.specs.Queues.{Told, steps_in}
-use Rattle.dp_lean.specs.Laws.{is_read}
-use Rattle.dp_lean.specs.LeanTurn.{LeanEnd, LeanTurn, Arrived, BrokenOff}
+use Rattle.dp_lean.specs.LeanTurn.{LeanEnd, LeanTurn, Arrived}
 use Rattle.dp_lean_code.specs.declared.LeanOp.{LeanOp}
-use Rattle.dp_lean_code.specs.LeanHeld.{Flat, flat_begin}
+use Rattle.dp_lean_code.specs.LeanHeld.{flat_begin}
 unfoldable use Rattle.dp_lean_code.specs.LeanFlat.{lean_flat}
 use Rattle.dp_columns.specs.declared.ColumnKind.{ColumnKind}
 use Rattle.dp_columns.specs.Columned.{Columned}
-use Rattle.dp_columns.specs.Telling.{put_items}
 use Rattle.dp_columns.specs.Left.{Left}
 use Rattle.dp_lean_turn.specs.declared.Turn.{Turn}
 use Rattle.dp_lean_turn.specs.declared.Turned.{Turned}
@@ -22,24 +20,25 @@ use Rattle.dp_lean_turn.specs.declared.Turned.TheVariants as turned
 use Rattle.dp_lean_turn.specs.Doing.{RunEnds, Leaves}
 use Rattle.dp_lean_turn.specs.Ending.{TurnIs, AsTurned}
 use Rattle.dp_lean_turn.specs.Left.{AreLeft}
-use Rattle.dp_lean_turn.specs.Standing.{Keeps}
+use Rattle.dp_lean_turn.specs.Standing.{IsSettled, Keeps}
 use Rattle.dp_lean_turn.specs.Told.{put_own}
 use Rattle.dp_lean_epoch.specs.Own.{at_stage, Arrives, own_items, own_steps, told_upto}
 use Rattle.dp_lean_epoch.specs.Coming.{Brought, Coming, LeanStands}
-use Rattle.dp_lean_epoch.specs.Holding.{StageColumns, Holds, Grown, filled, HavePlaces}
+use Rattle.dp_lean_epoch.specs.Holding.{StageColumns, Holds, Grown, filled}
 use Rattle.dp_lean_epoch.specs.LeanBatch.{Stood, Stands}
 use Rattle.dp_lean_epoch.specs.Laws.{ColumnsFill}
 use Rattle.dp_lean_epoch.specs.Steps.{keeps_memory, without_locals, ArrivesAs, StepEnds, CodeEnds}
-use Rattle.dp_lean_machine.specs.LeanEpoch.{LeanEpoch, marks_in, kept_by, begin_in, size_in}
-use Rattle.dp_lean_machine.specs.Line.{RunsIn}
-use Rattle.dp_lean_machine.specs.Ready.{HasLocals, IsStageReady}
+use Rattle.dp_lean_region.specs.LeanEpoch.{LeanEpoch, marks_in, begin_in, size_in}
+use Rattle.dp_lean_region.specs.Line.{RunsIn}
+use Rattle.dp_lean_region.specs.Ready.{HasLocals}
 use Rattle.dp_lean_machine.specs.Settled.{Settled}
-use Rattle.dp_lean_machine.specs.Within.{own_kinds, own_kept, PassesOn, Within, Ended, IsRan, IsCame, Steps}
-use Rattle.dp_lean_machine.specs.declared.line.ReadyStage.{ReadyStage}
+use Rattle.dp_lean_machine.specs.Within.{own_kinds, kept_own, PassesOn, Within, IsHeld, IsCame, ComesTo}
+use Rattle.dp_lean_region.specs.declared.ReadyStage.{ReadyStage}
 use Rattle.dp_lean_machine.specs.declared.turning.TurnEnd.TheVariants as end_of
+use Rattle.dp_lean_machine.proofs.Settling.{filled_settled}
 use Rattle.dp_lean_machine.proofs.Statuses.{still, closed, arrives, closing, voided}
 
-module _ (e : LeanEpoch) (s b : ℕ) (came : Stood) (is : IsCame e s b came) (r : ReadyStage) (runs : RunsIn e s r) (fill : ColumnsFill (marks_in e) e.key (own_kept e s b) (own_kinds e s b)) where
+module _ (e : LeanEpoch) (s b : ℕ) (came : Stood) (is : IsCame e s b came) (r : ReadyStage) (runs : RunsIn e s r) (fill : ColumnsFill (marks_in e) e.key (kept_own e s b) (own_kinds e s b)) where
   open e use {key}
 
   abbrev k : ℕ
@@ -54,10 +53,10 @@ module _ (e : LeanEpoch) (s b : ℕ) (came : Stood) (is : IsCame e s b came) (r 
   code_runs memory queues end ends = (
     ends.0,
     ap (λ (p : Program). lean_flat p r.frame.plan.now (marks_in e) r.frame.input.now r.frame.code.now ends.0 (flat_begin memory queues)) runs.program
-    ∙ ap (λ (plan : Plan). lean_flat key.program plan (marks_in e) r.frame.input.now r.frame.code.now ends.0 (flat_begin memory queues)) runs.plan
-    ∙ ap (λ (input : List ℤ). lean_flat key.program key.plan (marks_in e) input r.frame.code.now ends.0 (flat_begin memory queues)) runs.input
-    ∙ ap (λ (code : List LeanOp). lean_flat key.program key.plan (marks_in e) key.input code ends.0 (flat_begin memory queues)) runs.code
-    ∙ ends.1,
+        ∙ ap (λ (plan : Plan). lean_flat key.program plan (marks_in e) r.frame.input.now r.frame.code.now ends.0 (flat_begin memory queues)) runs.plan
+        ∙ ap (λ (input : List ℤ). lean_flat key.program key.plan (marks_in e) input r.frame.code.now ends.0 (flat_begin memory queues)) runs.input
+        ∙ ap (λ (code : List LeanOp). lean_flat key.program key.plan (marks_in e) key.input code ends.0 (flat_begin memory queues)) runs.code
+        ∙ ends.1,
   )
 
   left_in_frame : (readers : List Left) (queues : ℕ → List Told) → AreLeft key.program key.plan readers queues → AreLeft r.frame.program.now r.frame.plan.now readers queues
@@ -88,7 +87,7 @@ module _ (e : LeanEpoch) (s b : ℕ) (came : Stood) (is : IsCame e s b came) (r 
     memory_stands : LeanStands (marks_in e) key (suc s) (k + j) (cells old.memory)
     memory_stands = at.memory keeps_or_first
       where
-        first_or_keeps : (q : Bool) → keeps_memory (marks_in e) key (suc s) ≡ q → (keeps_memory (marks_in e) key (suc s) ≡ true) ⊎ (j ≡ 0)
+        first_or_keeps : (q : Bool) → keeps_memory key.program key.plan (suc s) ≡ q → (keeps_memory key.program key.plan (suc s) ≡ true) ⊎ (j ≡ 0)
         first_or_keeps true q = inl q
         first_or_keeps false q =
             let single = is.epoch.single (suc s) q in
@@ -98,18 +97,21 @@ module _ (e : LeanEpoch) (s b : ℕ) (came : Stood) (is : IsCame e s b came) (r 
             alone : e.cap ≤ 1 → n ≤ size_in e b → j ≡ 0
             alone single few = omega (arith, single, few, low)
 
-        keeps_or_first : (keeps_memory (marks_in e) key (suc s) ≡ true) ⊎ (j ≡ 0)
-        keeps_or_first = first_or_keeps (keeps_memory (marks_in e) key (suc s)) refl
+        keeps_or_first : (keeps_memory key.program key.plan (suc s) ≡ true) ⊎ (j ≡ 0)
+        keeps_or_first = first_or_keeps (keeps_memory key.program key.plan (suc s)) refl
 
     took : (end : LeanEnd) × CodeEnds (marks_in e) key (suc s) (cells old.memory) queues end × StepEnds (marks_in e) key s (k + j) rest end
     took = is.epoch.laws.steps s (k + j) is.within here (cells old.memory) memory_stands queues rest brought
 
+    none_waits : IsSettled old.teller.own
+    none_waits = subst IsSettled (sym at.own) (filled_settled (marks_in e) key (kept_own e s b) (own_kinds e s b) (suc s) k j)
+
     turned_as : (new : Turn M) (result : Turned) → TurnIs cells r.frame old new result → AsTurned cells r.frame (marks_in e) old.teller.own took.0 new result
-    turned_as new result turns = turns (marks_in e) queues took.0 runs.hidden (left_in_frame old.readers queues at.queues.2) (code_runs (cells old.memory) queues took.0 took.1)
+    turned_as new result turns = turns (marks_in e) queues took.0 none_waits runs.hidden (left_in_frame old.readers queues at.queues.2) (code_runs (cells old.memory) queues took.0 took.1)
 
     -- the stage's own items are put into its columns
     filled_more : (new : Turn M) (f : LeanTurn) → ArrivesAs (marks_in e) key s (k + j) rest f → Leaves r.frame (marks_in e) old.teller.own cells new f →
-        new.teller.own ≡ filled (marks_in e) key (own_kept e s b) (own_kinds e s b) (suc s) k (suc j)
+        new.teller.own ≡ filled (marks_in e) key (kept_own e s b) (own_kinds e s b) (suc s) k (suc j)
     filled_more new f a l =
         l.own
         ∙ ap (λ (p : Program). put_own p r.frame.plan.now r.frame.kinds.own.now f.turn.own old.teller.own) runs.program
@@ -151,7 +153,7 @@ module _ (e : LeanEpoch) (s b : ℕ) (came : Stood) (is : IsCame e s b came) (r 
           next : k + suc j ≡ suc (k + j)
           next = omega arith
 
-          kept_on : (keeps_memory (marks_in e) key (suc s) ≡ true) ⊎ (suc j ≡ 0) → LeanStands (marks_in e) key (suc s) (k + suc j) (cells u.memory)
+          kept_on : (keeps_memory key.program key.plan (suc s) ≡ true) ⊎ (suc j ≡ 0) → LeanStands (marks_in e) key (suc s) (k + suc j) (cells u.memory)
           kept_on (inl q) = subst (λ (i : ℕ). LeanStands (marks_in e) key (suc s) i (cells u.memory)) (sym next)
               (subst (LeanStands (marks_in e) key (suc s) (suc (k + j))) (cleared f l.memory) (a.next q))
           kept_on (inr q) = absurd (omega (arith, q))
@@ -172,33 +174,32 @@ module _ (e : LeanEpoch) (s b : ℕ) (came : Stood) (is : IsCame e s b came) (r 
                   (a.status ∙ ap (net_status_of (at_stage (marks_in e) key s (k + j)).packet.status) closing ∙ still (at_stage (marks_in e) key s (k + j)).packet.status)
 
       ended : (x : Stood) → x.iterations ≡ suc j → Stands (marks_in e) key (suc s) k (size_in e b) x → (f : LeanTurn) → ArrivesAs (marks_in e) key s (k + j) rest f →
-          Leaves r.frame (marks_in e) old.teller.own cells new f → sum_by steps_in f.turn.own ≡ count → Ended e s b u.teller.own told x
+          Leaves r.frame (marks_in e) old.teller.own cells new f → sum_by steps_in f.turn.own ≡ count → IsHeld e s b u.teller.own told x
       ended x many stands f a l sum = record {
         stands = stands;
-        holds = subst (λ (i : ℕ). Holds (marks_in e) key (own_kept e s b) (suc s) k i (record { columns = u.teller.own; steps = told })) (sym many)
-            (subst (Holds (marks_in e) key (own_kept e s b) (suc s) k (suc j)) (sym all) (fill.holds (suc s) k (suc j) (omega arith)));
+        holds = subst (λ (i : ℕ). Holds (marks_in e) key (kept_own e s b) (suc s) k i (record { columns = u.teller.own; steps = told })) (sym many)
+            (subst (Holds (marks_in e) key (kept_own e s b) (suc s) k (suc j)) (sym all) (fill.holds (suc s) k (suc j) (omega arith)));
       }
         where
           held : Columned → List ℕ → StageColumns
           held columns steps = record { columns = columns; steps = steps }
 
-          all : held u.teller.own told ≡ held (filled (marks_in e) key (own_kept e s b) (own_kinds e s b) (suc s) k (suc j)) (map (own_steps (marks_in e) key (suc s)) (numbers_from k (suc j)))
+          all : held u.teller.own told ≡ held (filled (marks_in e) key (kept_own e s b) (own_kinds e s b) (suc s) k (suc j)) (map (own_steps (marks_in e) key (suc s)) (numbers_from k (suc j)))
           all = ap (λ (c : Columned). held c told) (settled.own ∙ filled_more new f a l)
-              ∙ ap (held (filled (marks_in e) key (own_kept e s b) (own_kinds e s b) (suc s) k (suc j))) (counted new f count a sum told settled.more)
+              ∙ ap (held (filled (marks_in e) key (kept_own e s b) (own_kinds e s b) (suc s) k (suc j))) (counted new f count a sum told settled.more)
 
       done : (end : LeanEnd) → StepEnds (marks_in e) key s (k + j) rest end → (f : LeanTurn) → end ≡ Arrived f → ArrivesAs (marks_in e) key s (k + j) rest f
       done end ends f same = subst (StepEnds (marks_in e) key s (k + j) rest) same ends
 
-      pub goes : TurnIs cells r.frame old new (turned.Done false count) → Steps e s b cells came j u told end_of.Goes
+      pub goes : TurnIs cells r.frame old new (turned.Done false count) → ComesTo e s b cells came j u told end_of.Goes
       goes turns =
           let t = turned_as new (turned.Done false count) turns in
           behind t.0 (done took.0 took.2 t.0 t.1) t.4 t.3 t.2
 
-      pub closes : TurnIs cells r.frame old new (turned.Done true count) → Steps e s b cells came j u told end_of.Closes
+      pub closes : TurnIs cells r.frame old new (turned.Done true count) → ComesTo e s b cells came j u told end_of.Closes
       closes turns =
           let t = turned_as new (turned.Done true count) turns in
-          let a = done took.0 took.2 t.0 t.1 in
-          (
+          let a = done took.0 took.2 t.0 t.1 in (
             ended (record { iterations = suc j; ends = NetClosing }) refl
                 (closing (marks_in e) key s k (size_in e b) came is.stands j low at.same
                 (a.status ∙ ap (net_status_of (at_stage (marks_in e) key s (k + j)).packet.status) t.2 ∙ closed (at_stage (marks_in e) key s (k + j)).packet.status here)) t.0 a t.4 t.3,
@@ -206,13 +207,13 @@ module _ (e : LeanEpoch) (s b : ℕ) (came : Stood) (is : IsCame e s b came) (r 
           )
 
     -- a turn that broke off told something behind what was told before
-    pub voids : (new : Turn M) → Keeps old new → TurnIs cells r.frame old new turned.Void → Steps e s b cells came j new counts end_of.Void
+    pub voids : (new : Turn M) → Keeps old new → TurnIs cells r.frame old new turned.Void → ComesTo e s b cells came j new counts end_of.Void
     voids new keeps turns = (
       record {
         stands = voided (marks_in e) key s k (size_in e b) came is.stands j low at.same
             (subst (StepEnds (marks_in e) key s (k + j) rest) (turned_as new turned.Void turns) took.2);
-        holds = fill.grown (suc s) k j (record { columns = filled (marks_in e) key (own_kept e s b) (own_kinds e s b) (suc s) k j; steps = counts }) (record { columns = new.teller.own; steps = counts })
-            (subst (λ (is : List ℕ). Holds (marks_in e) key (own_kept e s b) (suc s) k j (record { columns = filled (marks_in e) key (own_kept e s b) (own_kinds e s b) (suc s) k j; steps = is }))
+        holds = fill.grown (suc s) k j (record { columns = filled (marks_in e) key (kept_own e s b) (own_kinds e s b) (suc s) k j; steps = counts }) (record { columns = new.teller.own; steps = counts })
+            (subst (λ (is : List ℕ). Holds (marks_in e) key (kept_own e s b) (suc s) k j (record { columns = filled (marks_in e) key (kept_own e s b) (own_kinds e s b) (suc s) k j; steps = is }))
             (sym at.counts) (fill.holds (suc s) k j (omega arith)))
             (subst (λ (c : Columned). Grown c new.teller.own) at.own grown)
             refl;

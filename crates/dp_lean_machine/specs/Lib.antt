@@ -1,14 +1,8 @@
-pub mod LeanEpoch
-pub mod Once
-pub mod Ready
 pub mod Held
-pub mod Line
 pub mod Sent
-pub mod Standing
-pub mod Within
 pub mod Fresh
-pub mod Decided
-pub mod Judging
+pub mod Standing
+pub mod Kept
+pub mod Within
 pub mod Settled
 pub mod RanFrom
-pub mod Kept

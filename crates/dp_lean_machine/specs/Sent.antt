@@ -2,8 +2,8 @@
 use Rattle.std.specs.Prelude.{◌≡◌, ◌+◌, ℕ, map, take}
 use Rattle.dp_net.specs.NetPackets.{NetStatus, NetGoing, NetClosing, NetVoid}
 use Rattle.dp_lean_epoch.specs.LeanBatch.{LeanItem, IsLeanBatch}
-use Rattle.dp_lean_machine.specs.LeanEpoch.{LeanEpoch, marks_in, kept_in, begin_in}
-use Rattle.dp_lean_machine.specs.Line.{IsLineOf}
+use Rattle.dp_lean_region.specs.LeanEpoch.{LeanEpoch, marks_in, kept_in, begin_in}
+use Rattle.dp_lean_region.specs.Line.{IsLineOf}
 use Rattle.dp_lean_machine.specs.Held.{held_in}
 use Rattle.dp_lean_machine.specs.declared.batch.BatchStatus.{BatchStatus}
 use Rattle.dp_lean_machine.specs.declared.batch.BatchStatus.TheVariants.{Going, Closing, Void, NoMemory}

@@ -2,7 +2,7 @@
 use Rattle.std.specs.Prelude.{◌≡◌, ◌≤◌, ◌<◌, ℕ, suc, true, false, length}
 use Rattle.dp_plan.specs.Access.{is_replicated}
 use Rattle.dp_lean_epoch.specs.Coming.{LeanStands}
-use Rattle.dp_lean_machine.specs.LeanEpoch.{LeanEpoch, IsLeanEpoch, marks_in, begin_in}
+use Rattle.dp_lean_region.specs.LeanEpoch.{LeanEpoch, IsLeanEpoch, marks_in, begin_in}
 use Rattle.dp_lean_machine.specs.Sent.{IsSent}
 use Rattle.dp_lean_machine.specs.declared.batch.LeanBatch.{LeanBatch}
 use Rattle.dp_lean_machine.specs.declared.batch.BatchStatus.TheVariants.{Going}
@@ -18,7 +18,7 @@ module _ (e : LeanEpoch) where
   Keeps s n Nothing = is_replicated e.key.plan s ≡ true
 
 -- Stage s, which keeps this, takes the epoch's batch b next. A replicated one may take any.
-pub record StandsAt (s : ℕ) (kept : Kept) (e : LeanEpoch) (b : ℕ) : Type 0 where
+pub record TakesNext (s : ℕ) (kept : Kept) (e : LeanEpoch) (b : ℕ) : Type 0 where
   pub epoch : IsLeanEpoch e
   pub some : 0 < s
   pub within : s ≤ length e.key.plan.stages
@@ -26,7 +26,7 @@ pub record StandsAt (s : ℕ) (kept : Kept) (e : LeanEpoch) (b : ℕ) : Type 0 w
 
 -- .. and so does its machine
 abbrev pub Stands : LeanMachine → LeanEpoch → ℕ → Type 0
-Stands m e b = StandsAt m.stage m.kept e b
+Stands m e b = TakesNext m.stage m.kept e b
 
 -- What is sent is the stage's batch b, and the machine stands at the next one, where that goes on. Or memory was wanting.
 pub record Passes (m : LeanMachine) (e : LeanEpoch) (b : ℕ) (sent : LeanBatch) : Type 0 where

@@ -1,9 +1,10 @@
 //! What goes from unit to unit for a batch of iterations.
 ghost use Rattle.std.specs.Prelude.{◌≡◌, map};
+ghost use Rattle.dp_lean_region.specs.Line.{line_kinds};
 ghost use Rattle.dp_lean_machine.specs.Held.{kinds_in};
 
-use crate::Line;
 use dp_columns::Columns;
+use dp_lean_region::Line;
 use dp_memory::{Version, VersionRoom};
 use dp_room::Row;
 
@@ -42,5 +43,43 @@ pub struct LeanBatch<'p> {
     pub(crate) version: Option<Version>,
     /// The room of one that is spent.
     pub(crate) room: Option<VersionRoom>,
-    ghost kinds: { map kinds_in stages ≡ line.kinds.now },
+    ghost kinds: { map kinds_in stages ≡ line_kinds line },
+}
+
+impl<'p> LeanBatch<'p> {
+    /// What the batch is run on.
+    pub fn line(&self) -> Line<'p>
+        ensures { result ≡ self.now.line }
+    {
+        self.line
+    }
+
+    /// The number of its first iteration.
+    pub fn first(&self) -> u64
+        ensures { result ≡ self.now.first }
+    {
+        self.first
+    }
+
+    /// How many of its iterations came to their end.
+    pub fn iterations(&self) -> usize
+        ensures { result ≡ self.now.iterations }
+    {
+        self.iterations
+    }
+
+    /// How the last of its iterations stands.
+    pub fn status(&self) -> BatchStatus
+        ensures { result ≡ self.now.status }
+    {
+        self.status
+    }
+
+    /// What each stage told of it.
+    pub fn stages(&self) -> &[StageColumns]
+        ensures value { result.now ≡ self.now.stages }
+        ensures kinds { map kinds_in result.now ≡ line_kinds self.now.line }
+    {
+        self.stages.as_slice()
+    }
 }

@@ -4,7 +4,7 @@ ghost use Rattle.dp_columns.specs.Columned.{nothing_kept};
 ghost use Rattle.dp_lean_machine.specs.Within.{read_of};
 
 use crate::StageColumns;
-use dp_columns::{ColumnKind, Columns, Reader, ReaderRoom};
+use dp_columns::{Columns, Reader, ReaderRoom};
 use dp_lean_turn::{Loads, Log};
 use dp_room::{NoMemory, Row};
 use std::alloc::Global;
@@ -19,6 +19,18 @@ pub(crate) struct Desk {
     pub(crate) log: Log,
     /// The rooms of readers.
     pub(crate) rooms: Row<ReaderRoom>,
+}
+
+/// These columns take the place of a stage's, which are answered.
+fn exchanged(stages: &mut Row<StageColumns>, place: usize, columns: StageColumns) -> StageColumns
+    requires { place < length stages.old }
+    ensures was { slice_get stages.old place ≡ Some result }
+    ensures now { stages.new ≡ slice_set stages.old place columns }
+{
+    match stages.get_mut(place) {
+        Some(at) => mem::replace(at, columns),
+        None => columns,
+    }
 }
 
 impl Desk {
@@ -38,27 +50,31 @@ impl Desk {
             log: Log {
                 running: false,
                 place: 0,
-                kind: ColumnKind::Nothing,
                 stores: Row::new(alloc),
             },
             rooms: Row::new(alloc),
         })
     }
-}
 
-/// These columns take the place of a stage's, which are answered.
-pub(crate) fn exchanged(
-    stages: &mut Row<StageColumns>,
-    place: usize,
-    columns: StageColumns,
-) -> StageColumns
-    requires { place < length stages.old }
-    ensures was { slice_get stages.old place ≡ Some result }
-    ensures now { stages.new ≡ slice_set stages.old place columns }
-{
-    match stages.get_mut(place) {
-        Some(at) => mem::replace(at, columns),
-        None => columns,
+    /// The desk's columns take the place of a stage's, which the desk has then.
+    pub(crate) fn exchanged(self, stages: &mut Row<StageColumns>, place: usize) -> Desk
+        requires { place < length stages.old }
+        ensures was { slice_get stages.old place ≡ Some result.own }
+        ensures now { stages.new ≡ slice_set stages.old place self.own }
+    {
+        let Desk {
+            own,
+            loads,
+            log,
+            rooms,
+        } = self;
+        let own = exchanged(stages, place, own);
+        Desk {
+            own,
+            loads,
+            log,
+            rooms,
+        }
     }
 }
 

@@ -4,16 +4,14 @@ ghost use Rattle.dp_lean_machine.specs.Held.{kinds_in};
 ghost use Rattle.dp_lean_machine.specs.Fresh.{IsFresh};
 ghost use Rattle.dp_lean_machine.specs.declared.batch.BatchStatus.TheVariants as wanting;
 
-use crate::{BatchStatus, LeanBatch, Line, StageColumns};
+use crate::{BatchStatus, LeanBatch, StageColumns};
 use dp_columns::{ColumnKind, Columns};
+use dp_lean_region::Line;
 use dp_room::{NoMemory, Row};
 use std::alloc::Global;
 
 /// Columns for each of these stages.
-fn stage_columns(
-    alloc: Global,
-    kinds: &[Row<ColumnKind>],
-) -> Result<Row<StageColumns>, NoMemory>
+fn stage_columns(alloc: Global, kinds: &[Row<ColumnKind>]) -> Result<Row<StageColumns>, NoMemory>
     ensures { IfOk result (λ stages. map kinds_in stages ≡ kinds.now) }
 {
     let mut stages = Row::with_capacity(alloc, kinds.len())?;
@@ -36,8 +34,10 @@ impl<'p> LeanBatch<'p> {
         size: usize,
     ) -> Result<LeanBatch<'p>, NoMemory>
         ensures fresh { IfOk result (λ batch. IsFresh line.entry first size batch) }
+        ensures line { IfOk result (λ batch. batch.line ≡ line.entry) }
+        ensures first { IfOk result (λ batch. batch.first ≡ first) }
     {
-        let stages = stage_columns(alloc, line.kinds)?;
+        let stages = stage_columns(alloc, line.kinds())?;
         Ok(LeanBatch {
             line,
             first,
@@ -53,6 +53,7 @@ impl<'p> LeanBatch<'p> {
     pub fn renew(self, first: u64, size: usize) -> LeanBatch<'p>
         ensures fresh { IsFresh self.entry.line first size result }
         ensures line { result.line ≡ self.entry.line }
+        ensures first { result.first ≡ first }
     {
         let LeanBatch {
             line,
@@ -85,26 +86,5 @@ impl<'p> LeanBatch<'p> {
         let mut batch = self;
         batch.status = BatchStatus::NoMemory;
         batch
-    }
-
-    /// The number of its first iteration.
-    pub fn first(&self) -> u64
-        ensures { result ≡ self.now.first }
-    {
-        self.first
-    }
-
-    /// How many of its iterations came to their end.
-    pub fn iterations(&self) -> usize
-        ensures { result ≡ self.now.iterations }
-    {
-        self.iterations
-    }
-
-    /// How the last of its iterations stands.
-    pub fn status(&self) -> BatchStatus
-        ensures { result ≡ self.now.status }
-    {
-        self.status
     }
 }

@@ -1,18 +1,15 @@
-//! The machines of a pipeline of columns: what goes from unit to unit for a batch of iterations, a stage's machine, and the judging.
+//! The machines of a pipeline of columns: what goes from unit to unit for a batch of iterations, and what a stage makes of it.
+//!
+//! `specs/` says what a batch tells that a stage sends, and where a stage's machine stands between two batches.
 #![tactic(auto)]
 
 mod batch;
-mod court;
 mod desk;
 mod fresh;
-mod line;
+mod keeping;
 mod machine;
 mod running;
-mod told;
 mod turning;
 
 pub use batch::{BatchStatus, LeanBatch, StageColumns};
-pub use court::LeanCourt;
-pub use line::{Line, ReadyStage};
 pub use machine::{Kept, LeanMachine};
-pub use told::{LeanClean, LeanVerdict, ToldBatch};

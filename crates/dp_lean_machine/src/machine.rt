@@ -1,16 +1,15 @@
 //! A stage's machine, from one batch to the next.
-ghost use Rattle.std.specs.Prelude.{◌≡◌, ◌<◌, ◌≤◌, suc, length, IfOk};
-ghost use Rattle.dp_plan.specs.Access.{is_replicated};
-ghost use Rattle.dp_lean_machine.specs.Kept.{KeepsBase};
+ghost use Rattle.std.specs.Prelude.{◌≡◌, ◌<◌, ◌≤◌, length, IfOk};
 ghost use Rattle.dp_lean_machine.specs.Sent.{SameTold};
 
 use crate::desk::Desk;
+use crate::keeping::kept_at_base;
 use crate::running::run_batch;
 use crate::{BatchStatus, LeanBatch};
 use dp_base::{Cells, NoMemory};
 use dp_engine::Versioned;
 use dp_memory::{Version, VersionRoom};
-use dp_plan::{Plan, StageKind};
+use dp_plan::Plan;
 use std::alloc::Global;
 use std::mem;
 
@@ -47,44 +46,6 @@ impl Drop for LeanMachine {
     }
 }
 
-/// Whether a stage is replicated; stages count from 1.
-fn is_par(plan: &Plan, stage: usize) -> bool
-    ensures { result ≡ is_replicated plan.now stage }
-{
-    if stage == 0 {
-        return false;
-    }
-    match plan.stages.get(stage - 1) {
-        Some(StageKind::Par) => true,
-        Some(StageKind::Seq) | None => false,
-    }
-}
-
-/// Whether the stage behind is replicated.
-fn next_is_par(plan: &Plan, stage: usize) -> bool
-    ensures { result ≡ is_replicated plan.now (suc stage) }
-{
-    match plan.stages.get(stage) {
-        Some(StageKind::Par) => true,
-        Some(StageKind::Seq) | None => false,
-    }
-}
-
-/// What a stage keeps where an epoch begins.
-fn kept_at_base(alloc: Global, plan: &Plan, stage: usize, base: &Cells) -> Result<Kept, NoMemory>
-    ensures { IfOk result (λ k. KeepsBase plan.now stage base.now k) }
-{
-    if is_par(plan, stage) {
-        return Ok(Kept::Nothing);
-    }
-    let cells = base.copy()?;
-    if next_is_par(plan, stage) {
-        let both = Versioned::of(alloc, cells)?;
-        return Ok(Kept::Versioned(both));
-    }
-    Ok(Kept::Cells(cells))
-}
-
 /// Takes the version out of the batch.
 fn taken_version<'p>(batch: &mut LeanBatch<'p>) -> Option<Version>
     ensures version { result ≡ batch.old.version }
@@ -115,10 +76,10 @@ impl LeanMachine {
     ghost use Rattle.std.specs.Prelude.{◌-◌, ℕ};
     ghost use Rattle.dp_net.specs.NetPackets.{NetStatus};
     ghost use Rattle.dp_lean_epoch.specs.Coming.{LeanStands};
-    ghost use Rattle.dp_lean_machine.specs.LeanEpoch.{LeanEpoch, IsLeanEpoch, marks_in};
+    ghost use Rattle.dp_lean_region.specs.LeanEpoch.{LeanEpoch, IsLeanEpoch, marks_in};
     ghost use Rattle.dp_lean_machine.specs.declared.machine.Kept.TheVariants as kept;
     ghost use Rattle.dp_lean_machine.specs.Sent.{AsStatus, IsSent};
-    ghost use Rattle.dp_lean_machine.specs.Standing.{StandsAt, Stands, Passes};
+    ghost use Rattle.dp_lean_machine.specs.Standing.{TakesNext, Stands, Passes};
 
     /// The machine of a stage where an epoch begins.
     pub fn new(
@@ -157,7 +118,8 @@ impl LeanMachine {
 
     /// The same where memory wasn't wanting.
     fn go<'p>(&mut self, batch: LeanBatch<'p>) -> LeanBatch<'p>
-        ensures sent { (e : LeanEpoch) (b : ℕ) (ends : NetStatus) → AsStatus batch.entry.status ends → Stands self.old e b → IsSent e (self.old.stage - 1) b batch.entry → Passes self.new e b result }
+        ensures sent { (e : LeanEpoch) (b : ℕ) (ends : NetStatus) → AsStatus batch.entry.status ends → Stands self.old e b →
+            IsSent e (self.old.stage - 1) b batch.entry → Passes self.new e b result }
         ensures stage { self.new.stage ≡ self.old.stage }
     {
         let desk = match self.desk.take() {
@@ -173,7 +135,8 @@ impl LeanMachine {
 
     /// By a stage before a sequential one.
     fn from_cells<'p>(&mut self, desk: Desk, cells: Cells, batch: LeanBatch<'p>) -> LeanBatch<'p>
-        ensures sent { (e : LeanEpoch) (b : ℕ) (ends : NetStatus) → AsStatus batch.entry.status ends → StandsAt self.old.stage (kept.Cells cells) e b → IsSent e (self.old.stage - 1) b batch.entry → Passes self.new e b result }
+        ensures sent { (e : LeanEpoch) (b : ℕ) (ends : NetStatus) → AsStatus batch.entry.status ends → TakesNext self.old.stage (kept.Cells cells) e b →
+            IsSent e (self.old.stage - 1) b batch.entry → Passes self.new e b result }
         ensures stage { self.new.stage ≡ self.old.stage }
     {
         let place = self.stage.saturating_sub(1);
@@ -190,7 +153,9 @@ impl LeanMachine {
         both: Versioned,
         batch: LeanBatch<'p>,
     ) -> LeanBatch<'p>
-        ensures sent { (e : LeanEpoch) (b : ℕ) (ends : NetStatus) → AsStatus batch.entry.status ends → StandsAt self.old.stage (kept.Versioned both) e b → IsSent e (self.old.stage - 1) b batch.entry → Passes self.new e b result }
+        ensures sent { (e : LeanEpoch) (b : ℕ) (ends : NetStatus) → AsStatus batch.entry.status ends →
+            TakesNext self.old.stage (kept.Versioned both) e b →
+            IsSent e (self.old.stage - 1) b batch.entry → Passes self.new e b result }
         ensures stage { self.new.stage ≡ self.old.stage }
     {
         let mut batch = batch;
@@ -209,7 +174,8 @@ impl LeanMachine {
 
     /// By a replicated stage, from the version that the batch brings.
     fn from_version<'p>(&mut self, desk: Desk, batch: LeanBatch<'p>) -> LeanBatch<'p>
-        ensures sent { (e : LeanEpoch) (b : ℕ) (ends : NetStatus) → AsStatus batch.entry.status ends → StandsAt self.old.stage kept.Nothing e b → IsSent e (self.old.stage - 1) b batch.entry → Passes self.new e b result }
+        ensures sent { (e : LeanEpoch) (b : ℕ) (ends : NetStatus) → AsStatus batch.entry.status ends → TakesNext self.old.stage kept.Nothing e b →
+            IsSent e (self.old.stage - 1) b batch.entry → Passes self.new e b result }
         ensures stage { self.new.stage ≡ self.old.stage }
     {
         let mut batch = batch;

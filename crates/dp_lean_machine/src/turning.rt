@@ -5,17 +5,18 @@ ghost use Rattle.dp_judge.specs.Locals.{clear_cells};
 ghost use Rattle.dp_lean_turn.specs.Ending.{CanTurn, TurnIs};
 ghost use Rattle.dp_lean_turn.specs.Standing.{Keeps};
 ghost use Rattle.dp_lean_epoch.specs.LeanBatch.{Stood};
-ghost use Rattle.dp_lean_machine.specs.LeanEpoch.{LeanEpoch};
+ghost use Rattle.dp_lean_region.specs.LeanEpoch.{LeanEpoch};
 ghost use Rattle.dp_net.specs.NetPackets.{NetStatus};
-ghost use Rattle.dp_lean_machine.specs.Line.{RunsIn};
+ghost use Rattle.dp_lean_region.specs.Line.{RunsIn};
 ghost use Rattle.dp_lean_machine.specs.Sent.{AsStatus};
-ghost use Rattle.dp_lean_machine.specs.Ready.{HasLocals};
-ghost use Rattle.dp_lean_machine.specs.Within.{IsCame, Within, Steps, IsRan};
+ghost use Rattle.dp_lean_region.specs.Ready.{HasLocals};
+ghost use Rattle.dp_lean_machine.specs.Within.{IsCame, Within, ComesTo, IsRan};
 
-use crate::{BatchStatus, ReadyStage};
+use crate::BatchStatus;
 use dp_base::{CellId, NoMemory, Row};
 use dp_engine::Memory;
-use dp_lean_turn::{Turn, Turned, stage_turn};
+use dp_lean_region::ReadyStage;
+use dp_lean_turn::{Turn, Turned};
 
 /// How many iterations came to their end, and how the last one stands.
 #[derive(Clone, Copy)]
@@ -37,6 +38,7 @@ pub(crate) enum TurnEnd {
 }
 
 /// These cells read 0.
+#[inline(always)]
 fn clear<M: Memory + Drop>(locals: &[CellId], memory: &mut M) -> Result<(), NoMemory>
     ensures { OnOk result (M.cells memory.new ≡ clear_cells locals.now (M.cells memory.old)) }
 {
@@ -47,6 +49,7 @@ fn clear<M: Memory + Drop>(locals: &[CellId], memory: &mut M) -> Result<(), NoMe
 }
 
 /// The number of a turn's steps is told, and the memory is made ready for the next iteration.
+#[inline(always)]
 fn settle<M: Memory + Drop>(
     locals: &[CellId],
     memory: &mut M,
@@ -61,6 +64,7 @@ fn settle<M: Memory + Drop>(
 }
 
 /// One iteration more.
+#[inline(always)]
 fn turn_once<'c, 'p, M: Memory + Drop>(
     stage: ReadyStage<'p>,
     turn: &mut Turn<'c, M>,
@@ -69,10 +73,10 @@ fn turn_once<'c, 'p, M: Memory + Drop>(
     requires can { CanTurn stage.frame stage.ready turn.old }
     requires locals { HasLocals stage }
     ensures steps { (e : LeanEpoch) (s b j : ℕ) (came : Stood) → IsCame e s b came → RunsIn e s stage.entry → j < came.iterations →
-        Within e s b M.cells came.iterations j turn.old steps.old → Steps e s b M.cells came j turn.new steps.new result }
+        Within e s b M.cells came.iterations j turn.old steps.old → ComesTo e s b M.cells came j turn.new steps.new result }
     ensures keeps { Keeps turn.old turn.new }
 {
-    match stage_turn(stage.frame, &stage.ready, turn) {
+    match turn.turn(stage.frame, &stage.ready) {
         Turned::Done {
             closing,
             steps: count,
@@ -100,7 +104,8 @@ pub(crate) fn run_all<'c, 'p, M: Memory + Drop>(
 ) -> Ran
     requires can { CanTurn stage.frame stage.ready turn.old }
     requires locals { HasLocals stage }
-    ensures ran { (e : LeanEpoch) (s b : ℕ) (ends : NetStatus) → AsStatus came.status ends → IsCame e s b (record { iterations = came.iterations; ends = ends }) → RunsIn e s stage.entry →
+    ensures ran { (e : LeanEpoch) (s b : ℕ) (ends : NetStatus) → AsStatus came.status ends →
+        IsCame e s b (record { iterations = came.iterations; ends = ends }) → RunsIn e s stage.entry →
         Within e s b M.cells came.iterations 0 turn.old steps.old → IsRan e s b M.cells turn.new steps.new result }
     ensures keeps { Keeps turn.old turn.new }
 {

@@ -1,9 +1,9 @@
-use Rattle.dp_semantics.proofs.Names.{◌≡◌, refl, sym, ap, ◌∙◌, subst, List, take, map, Some, slice_get, slice_set, slice_get-get_or}
+use Rattle.dp_semantics.proofs.Names.{◌≡◌, refl, sym, ap, ◌∙◌, subst, List, take, map, slice_set}
 use Rattle.dp_lean_epoch.specs.LeanBatch.{Stood}
+use Rattle.dp_lean_region.specs.Line.{line_kinds}
+use Rattle.dp_lean_region.specs.Ready.{CanRead}
 use Rattle.dp_lean_machine.specs.Held.{kinds_in}
-use Rattle.dp_lean_machine.specs.Ready.{CanRead}
 use Rattle.dp_lean_machine.specs.Within.{Comes}
-use Rattle.dp_lean_machine.specs.declared.line.ReadyStage.{ReadyStage}
 use Rattle.dp_lean_machine.specs.declared.batch.StageColumns.{StageColumns}
 use Rattle.dp_lean_machine.proofs.Exchanged.{some_low, kinds_back, take_before}
 use Rattle.dp_lean_machine.proofs.Over.{can_read}
@@ -12,45 +12,35 @@ use Rattle.dp_lean_machine.proofs.running.run_batch.Goals as goal
 
 pub run_over-done-requires-clause-can : goal.run_over-done-requires-clause-can
 run_over-done-requires-clause-can g c =
-    let at = c.in-Some.ensures.lookup.3 in
-    let got : slice_get c.args.batch.line.stages.now c.args.place ≡ Some c.in-Some.stage.now =
-    slice_get-get_or c.args.batch.line.stages.now c.args.place c.in-Some.stage.now at.0 ∙ ap Some (sym (at.1 c.in-Some.stage.now)) in
-    subst (λ (xs : List StageColumns). CanRead c.in-Some.stage.now c.exchanged-own.result.columns.kinds (map kinds_in (take c.args.place xs)))
-    (sym (c.as_slice.ensures ∙ c.exchanged-own.ensures.now))
-    (can_read c.args.batch.line.kinds.now c.args.place c.in-Some.stage.now (c.args.batch.line.ready.ready c.args.place c.in-Some.stage.now got)
-    c.args.batch.stages c.args.batch.kinds c.exchanged-own.result c.args.desk.own c.exchanged-own.ensures.was)
+    subst (λ (xs : List StageColumns). CanRead c.in-Some.stage c.exchanged-taken.result.own.columns.kinds (map kinds_in (take c.args.place xs)))
+    (sym (c.as_slice.ensures ∙ c.exchanged-taken.ensures.now))
+    (can_read (line_kinds c.args.batch.line) c.args.place c.in-Some.stage c.in-Some.ensures.ready
+    c.args.batch.stages c.args.batch.kinds c.exchanged-taken.result.own c.args.desk.own c.exchanged-taken.ensures.was)
 
 pub run_over-done-requires-clause-locals : goal.run_over-done-requires-clause-locals
-run_over-done-requires-clause-locals g c =
-    let at = c.in-Some.ensures.lookup.3 in
-    let got : slice_get c.args.batch.line.stages.now c.args.place ≡ Some c.in-Some.stage.now =
-    slice_get-get_or c.args.batch.line.stages.now c.args.place c.in-Some.stage.now at.0 ∙ ap Some (sym (at.1 c.in-Some.stage.now)) in
-    let ready = c.args.batch.line.ready.ready c.args.place c.in-Some.stage.now got in ready.locals
+run_over-done-requires-clause-locals g c = let ready = c.in-Some.ensures.ready in ready.locals
 
-pub invariant_of-result : goal.invariant_of-result
-invariant_of-result g c = record {
+pub invariant_of-batch-2 : goal.invariant_of-batch-2
+invariant_of-batch-2 g c = record {
   kinds =
-      ap (map kinds_in) (c.exchanged-own-in-Some.ensures.now ∙ ap (λ (xs : List StageColumns). slice_set xs c.args.place c.run_over-done.result.desk.own) c.exchanged-own.ensures.now)
-      ∙ kinds_back c.args.batch.stages c.args.place c.args.desk.own c.run_over-done.result.desk.own c.exchanged-own.result c.exchanged-own.ensures.was c.run_over-done.ensures.kinds
+      ap (map kinds_in) (c.exchanged-given.ensures.now ∙ ap (λ (xs : List StageColumns). slice_set xs c.args.place c.run_over-done.result.desk.own) c.exchanged-taken.ensures.now)
+      ∙ kinds_back c.args.batch.stages c.args.place c.args.desk.own c.run_over-done.result.desk.own c.exchanged-taken.result.own c.exchanged-taken.ensures.was c.run_over-done.ensures.kinds
       ∙ c.args.batch.kinds;
 }
 
-pub returns-in-Some : goal.returns-in-Some
-returns-in-Some g c = record {
+pub returns : goal.returns
+returns g c = record {
   sent = λ e b ends like is within stands version_is taken sent. (
-      let at = c.in-Some.ensures.lookup.3 in
-      let got : slice_get c.args.batch.line.stages.now c.args.place ≡ Some c.in-Some.stage.now =
-      slice_get-get_or c.args.batch.line.stages.now c.args.place c.in-Some.stage.now at.0 ∙ ap Some (sym (at.1 c.in-Some.stage.now)) in
       let item = stands_so e is c.args.place b within c.args.batch taken sent c.args.batch.status sent.item ends like in
       let earlier : List StageColumns = take c.args.place c.args.batch.stages in
       let stood : Stood = record { iterations = c.args.batch.iterations; ends = ends } in
       let lent : earlier ≡ take c.args.place c.as_slice.result.now =
-      sym (ap (take c.args.place) (c.as_slice.ensures ∙ c.exchanged-own.ensures.now) ∙ take_before c.args.batch.stages c.args.place c.args.desk.own) in
+      sym (ap (take c.args.place) (c.as_slice.ensures ∙ c.exchanged-taken.ensures.now) ∙ take_before c.args.batch.stages c.args.place c.args.desk.own) in
       passes_on e is c.args.place b within c.args.batch taken sent g.M.Memory.cells ends like c.args.desk.own c.run_over-done.result.desk.own _ c.run_over-done.result.memory c.run_over-done.result.ran
-      (some_low c.args.batch.stages c.args.place c.exchanged-own.result c.exchanged-own.ensures.was) refl refl
-      (c.exchanged-own-in-Some.ensures.now ∙ ap (λ (xs : List StageColumns). slice_set xs c.args.place c.run_over-done.result.desk.own) c.exchanged-own.ensures.now)
+      (some_low c.args.batch.stages c.args.place c.exchanged-taken.result.own c.exchanged-taken.ensures.was) refl refl
+      (c.exchanged-given.ensures.now ∙ ap (λ (xs : List StageColumns). slice_set xs c.args.place c.run_over-done.result.desk.own) c.exchanged-taken.ensures.now)
       refl refl version_is
-      (c.run_over-done.ensures.done e c.args.place b ends like (comes_so e is c.args.place b within earlier stood taken item) (sent.line.runs c.args.place c.in-Some.stage.now got)
+      (c.run_over-done.ensures.done e c.args.place b ends like (comes_so e is c.args.place b within earlier stood taken item) (c.in-Some.ensures.runs e sent.line)
       (subst (Comes e c.args.place b c.args.batch.iterations) lent (comes_with e is c.args.place b within earlier stood taken item)) stands)
-  );
+      );
 }

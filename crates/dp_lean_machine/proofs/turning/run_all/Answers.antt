@@ -34,9 +34,9 @@ loop-done-preserved g c = (
   keeps_on c.args.turn.now c.loop-done.turn c.turn_once.new.turn c.loop-done.invariant.0 c.in-Goes.ensures.keeps,
   omega (arith, c.loop-done-test.true, c.loop-done.auto.done-end),
   λ e s b ends like is runs at. (
-    let more : suc c.loop-done.done ≡ c.loop-done.done + 1 = omega arith in
-    subst (λ (i : ℕ). Within e s b g.M.Memory.cells c.args.came.iterations i c.turn_once.new.turn c.turn_once.new.steps) more
-    (c.in-Goes.ensures.steps e s b c.loop-done.done (record { iterations = c.args.came.iterations; ends = ends }) is runs (omega (arith, c.loop-done-test.true, c.loop-done.auto.done-end)) (c.loop-done.invariant.2 e s b ends like is runs at))),
+      let more : suc c.loop-done.done ≡ c.loop-done.done + 1 = omega arith in
+      subst (λ (i : ℕ). Within e s b g.M.Memory.cells c.args.came.iterations i c.turn_once.new.turn c.turn_once.new.steps) more
+      (c.in-Goes.ensures.steps e s b c.loop-done.done (record { iterations = c.args.came.iterations; ends = ends }) is runs (omega (arith, c.loop-done-test.true, c.loop-done.auto.done-end)) (c.loop-done.invariant.2 e s b ends like is runs at))),
 )
 
 pub returns-clause-ran : goal.returns-clause-ran

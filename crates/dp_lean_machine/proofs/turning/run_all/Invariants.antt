@@ -1,8 +1,8 @@
 use Rattle.std.proofs.Common.{◌≤◌, ℕ}
 use Rattle.dp_net.specs.NetPackets.{NetStatus}
 use Rattle.dp_lean_turn.specs.Standing.{Keeps}
-use Rattle.dp_lean_machine.specs.LeanEpoch.{LeanEpoch}
-use Rattle.dp_lean_machine.specs.Line.{RunsIn}
+use Rattle.dp_lean_region.specs.LeanEpoch.{LeanEpoch}
+use Rattle.dp_lean_region.specs.Line.{RunsIn}
 use Rattle.dp_lean_machine.specs.Sent.{AsStatus}
 use Rattle.dp_lean_machine.specs.Within.{IsCame, Within}
 use Rattle.dp_lean_machine.proofs.turning.run_all.Given as goal

@@ -1,6 +1,6 @@
 use Rattle.dp_semantics.proofs.Names.{◌≡◌, sym, ap, ◌∙◌, subst, arith, ℕ, suc, ◌-◌, ◌≤◌, length, None, is_replicated}
 use Rattle.dp_lean_epoch.specs.Coming.{LeanStands}
-use Rattle.dp_lean_machine.specs.LeanEpoch.{marks_in, begin_in}
+use Rattle.dp_lean_region.specs.LeanEpoch.{marks_in, begin_in}
 use Rattle.dp_lean_machine.specs.Sent.{IsSent}
 use Rattle.dp_lean_machine.proofs.Passing.{goes_behind}
 use Rattle.dp_lean_machine.proofs.machine.LeanMachine.from_cells.Goals as goal

@@ -1,6 +1,6 @@
 use Rattle.dp_semantics.proofs.Names.{◌≡◌, sym, ap, ◌∙◌, subst, arith, ℕ, suc, ◌-◌, ◌≤◌, length, Some, is_replicated}
 use Rattle.dp_lean_epoch.specs.Coming.{LeanStands}
-use Rattle.dp_lean_machine.specs.LeanEpoch.{marks_in, begin_in}
+use Rattle.dp_lean_region.specs.LeanEpoch.{marks_in, begin_in}
 use Rattle.dp_lean_machine.specs.Sent.{AsStatus, IsSent}
 use Rattle.dp_lean_machine.specs.declared.batch.BatchStatus.{BatchStatus}
 use Rattle.dp_lean_machine.proofs.Passing.{goes_behind, same_sent, replicated_within}

@@ -1,4 +1,4 @@
-use Rattle.dp_semantics.proofs.Names.{◌≤◌, ℕ, List, length, sym, subst, Plan}
+use Rattle.dp_semantics.proofs.Names.{◌≤◌, length, sym, subst, Plan}
 use Rattle.dp_lean_machine.proofs.Passing.{base_keeps}
 use Rattle.dp_lean_machine.proofs.machine.LeanMachine.new.Goals as goal
 
