@@ -27,6 +27,7 @@ use Rattle.dp_lean_region.specs.Line.{IsLineOf, line_kinds, program_of, plan_of}
 use Rattle.dp_lean_region.specs.declared.line.JudgeTables.{JudgeTables}
 use Rattle.dp_lean_region.specs.declared.line.Line.{Line}
 use Rattle.dp_lean_machine.specs.Held.{held_in, kinds_in}
+use Rattle.dp_lean_machine.specs.Within.{read_of}
 use Rattle.dp_lean_machine.specs.Sent.{IsSent, Unless, AsStatus, item_of}
 use Rattle.dp_lean_machine.specs.declared.batch.BatchStatus.{BatchStatus}
 use Rattle.dp_lean_machine.specs.declared.batch.BatchStatus.TheVariants as status
@@ -34,7 +35,7 @@ use Rattle.dp_lean_machine.specs.declared.batch.StageColumns.{StageColumns}
 use Rattle.dp_lean_machine.specs.declared.batch.LeanBatch.{LeanBatch}
 use Rattle.dp_lean_court.specs.Judging.{Judges}
 use Rattle.dp_lean_court.specs.Verdicts.{Stands}
-use Rattle.dp_lean_court.specs.steps.Within.{JudgesBy, CameIn, CameTo, CleanTo, Within, read_of}
+use Rattle.dp_lean_court.specs.steps.Within.{JudgesBy, CameIn, CameTo, CleanTo, Within}
 use Rattle.dp_lean_court.specs.declared.court.LeanCourt.{LeanCourt}
 use Rattle.dp_lean_court.specs.declared.judging.Decision.{Decision}
 use Rattle.dp_lean_court.proofs.Telling.{told_none}

@@ -1,6 +1,5 @@
 -- What is done with an iteration's judging.
-use Rattle.dp_semantics.proofs.Names.{◌≡◌, refl, sym, ◌∙◌, subst, ℕ, suc, ◌+◌, ◌<◌, Bool, true, false, List, ℤ, map}
-use Rattle.dp_base.specs.declared.CellId.{CellId}
+use Rattle.dp_semantics.proofs.Names.{◌≡◌, refl, sym, ◌∙◌, subst, ℕ, suc, ◌+◌, ◌<◌, Bool, List, ℤ, map}
 use Rattle.dp_base.specs.declared.Cause.{Cause}
 use Rattle.dp_semantics.specs.EpochVerdicts.{Again, verdict_at}
 use Rattle.dp_columns.specs.Left.{Left}
@@ -13,25 +12,13 @@ use Rattle.dp_lean_region.specs.declared.line.JudgeTables.{JudgeTables}
 use Rattle.dp_lean_machine.specs.Held.{held_in}
 use Rattle.dp_lean_machine.specs.declared.batch.StageColumns.{StageColumns}
 use Rattle.dp_lean_court.specs.Decided.{cleans}
-use Rattle.dp_lean_court.specs.steps.Adding.{IsUngiven}
 use Rattle.dp_lean_court.specs.steps.Within.{JudgesBy, CameIn, CleanTo, Within, Closed, Broken, Comes}
-use Rattle.dp_lean_court.specs.steps.Deciding.{SeesAs, Committed, Undone, CommitsSo, going_by}
+use Rattle.dp_lean_court.specs.steps.Deciding.{SeesAs, Undone, CommitsSo}
 use Rattle.dp_lean_court.specs.declared.judging.Bench.{Bench}
 use Rattle.dp_lean_court.specs.declared.judging.Decision.{Decision}
 use Rattle.dp_lean_court.specs.declared.judging.Decision.TheVariants.{Goes, Closes, Unclean, NoMemory}
 use Rattle.dp_lean_court.specs.declared.told.ToldBatch.{ToldBatch}
 use Rattle.dp_lean_court.proofs.Iterating.{clean_still, spent, differs_then, goes_then, closes_then}
-
-module _ (locals : List CellId) (after : ℕ) (old new : Bench) (told_old told_new : ToldBatch) where
-  pub committed : (closing : Bool) → Committed locals after closing old new told_old told_new → CommitsSo locals after closing old new told_old told_new (going_by closing)
-  committed true is = (refl, is)
-  committed false is = (refl, is)
-
-  pub opened_if : (closing : Bool) (d : Decision) → CommitsSo locals after closing old new told_old told_new d → d ≡ Goes → IsUngiven told_new
-  opened_if closing Goes is same = is.1.ungiven
-  opened_if closing Closes is same = absurd (cc same)
-  opened_if closing Unclean is same = absurd is
-  opened_if closing NoMemory is same = absurd (cc same)
 
 module _ (e : LeanEpoch) (b n place : ℕ) (stages : List StageColumns) (came : CameIn e b n stages) (low : place < n) (left : ℕ) (cells : List ℤ) (readers : List Left)
     (told_old told_new : ToldBatch) (at : Within e b n place left cells readers (cleans told_old)) (tables : JudgeTables) (by : JudgesBy e tables) (bench bench_new : Bench)

@@ -158,8 +158,7 @@ cleans_go [] stores prints = refl
 cleans_go (p ∷ rest) stores prints = ap (λ (t : Bool). not p.closing && t) (cleans_go rest (drop p.stores stores) (drop p.prints prints))
 
 -- the epoch goes on behind what is left where no part closes and nothing stands behind them
-pub goes_on_so : (t : ToldBatch) → none_closing (drop (min t.given (length t.parts)) t.parts) && list_all goes_on_behind (ending t.end) ≡ list_all goes_on_behind (left_to_give t)
+pub goes_on_so : (t : ToldBatch) → (none_closing (drop t.given t.parts) && list_all goes_on_behind (ending t.end)) ≡ list_all goes_on_behind (left_to_give t)
 goes_on_so t =
-    ap (λ (ps : List Part). none_closing ps && list_all goes_on_behind (ending t.end)) (drop_within Part t.parts t.given)
-    ∙ ap (λ (test : Bool). test && list_all goes_on_behind (ending t.end)) (sym (cleans_go (drop t.given t.parts) (drop t.stores_given t.stores) (drop t.prints_given t.prints)))
+    ap (λ (test : Bool). test && list_all goes_on_behind (ending t.end)) (sym (cleans_go (drop t.given t.parts) (drop t.stores_given t.stores) (drop t.prints_given t.prints)))
     ∙ sym (list_all-append goes_on_behind (cleans t) (ending t.end))

@@ -3,11 +3,10 @@ ghost use Rattle.std.specs.Prelude.{◌≡◌};
 ghost use Rattle.dp_lean_court.specs.steps.Deciding.{end_of_status, end_of_decision};
 
 use crate::judging::{Bench, Decision};
-use crate::readers::{keep_rooms, readers_of};
 use crate::told::{ToldBatch, ToldEnd};
 use dp_base::Cells;
 use dp_columns::ReaderRoom;
-use dp_lean_machine::{BatchStatus, LeanBatch};
+use dp_lean_machine::{BatchStatus, LeanBatch, keep_rooms, readers_of};
 use dp_room::Row;
 use std::alloc::Global;
 

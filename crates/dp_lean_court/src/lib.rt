@@ -4,7 +4,6 @@
 mod court;
 mod fuel;
 mod judging;
-mod readers;
 mod told;
 
 pub use court::LeanCourt;

@@ -10,7 +10,6 @@ use dp_base::StoreOf;
 use dp_judge::{Clean, Verdict};
 use dp_room::{NoMemory, Row};
 use std::alloc::Global;
-use std::mem;
 
 /// How many stores and prints a clean iteration has, how many steps, and whether it leaves the region.
 #[derive(Clone, Copy)]
@@ -84,12 +83,19 @@ fn is_over(end: ToldEnd) -> bool
     }
 }
 
+/// The items from a place on.
+fn left_from<T>(items: &[T], from: usize) -> &[T]
+    ensures { result.now ≡ drop from items.now }
+{
+    let from_here = from.min(items.len());
+    &items[from_here..]
+}
+
 /// So many items from a place on.
 fn part_of<T>(items: &[T], from: usize, count: usize) -> &[T]
     ensures { result.now ≡ take count (drop from items.now) }
 {
-    let from_here = from.min(items.len());
-    let rest = &items[from_here..];
+    let rest = left_from(items, from);
     let within = count.min(rest.len());
     &rest[..within]
 }
@@ -169,9 +175,9 @@ impl ToldBatch {
     pub fn goes_on(&self) -> bool
         ensures { result ≡ list_all goes_on_behind (left_to_give self.now) }
     {
-        let parts = self.parts.as_slice();
-        let given = self.given.min(parts.len());
-        none_closes(&parts[given..]) && is_over(self.end)
+        let stays = none_closes(left_from(self.parts.as_slice(), self.given));
+        let over = is_over(self.end);
+        stays && over
     }
 
     /// What is carried of the next clean iteration.
@@ -224,7 +230,9 @@ impl ToldBatch {
         requires { length self.old.parts ≤ self.old.given }
         ensures { MatchOption result ((left_to_give self.old ≡ []) × (left_to_give self.new ≡ [])) (λ v. IsNext self.old self.new v) }
     {
-        match mem::replace(&mut self.end, ToldEnd::Over) {
+        let end = self.end;
+        self.end = ToldEnd::Over;
+        match end {
             ToldEnd::Over => None,
             ToldEnd::Unclean => Some(Verdict::Unclean),
             ToldEnd::NoMemory => Some(Verdict::NoMemory),

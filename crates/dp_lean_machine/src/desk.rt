@@ -90,7 +90,7 @@ pub(crate) fn cleared(columns: StageColumns) -> StageColumns
 }
 
 /// A reader of all that each stage told.
-pub(crate) fn readers_of<'c>(
+pub fn readers_of<'c>(
     alloc: Global,
     stages: &'c [StageColumns],
     rooms: &mut Row<ReaderRoom>,
@@ -110,7 +110,7 @@ pub(crate) fn readers_of<'c>(
 }
 
 /// The rooms of readers are kept for others.
-pub(crate) fn keep_rooms<'c>(readers: Row<Reader<'c>>, rooms: &mut Row<ReaderRoom>) {
+pub fn keep_rooms<'c>(readers: Row<Reader<'c>>, rooms: &mut Row<ReaderRoom>) {
     for reader in readers {
         if rooms.push(reader.into_room()).is_err() {
             return;

@@ -12,4 +12,5 @@ mod running;
 mod turning;
 
 pub use batch::{BatchStatus, LeanBatch, StageColumns};
+pub use desk::{keep_rooms, readers_of};
 pub use machine::{Kept, LeanMachine};

@@ -23,10 +23,6 @@ use Rattle.dp_lean_court.specs.Verdicts.{AreTold, Stands, EachGoesOn}
 use Rattle.dp_lean_court.specs.declared.judging.Decision.{Decision}
 use Rattle.dp_lean_court.specs.declared.judging.Decision.TheVariants.{Goes, Closes, Unclean, NoMemory}
 
--- all that a stage's columns hold, to be read
-abbrev pub read_of : StageColumns → Left
-read_of c = record { kinds = c.columns.kinds; told = c.columns.told; loads = c.columns.loads }
-
 -- The judge's code of the epoch is ready, and the cells of the region's body locals are known.
 pub record JudgesBy (e : LeanEpoch) (tables : JudgeTables) : Type 0 where
   pub ready : IsReady e.key.program e.key.plan (lean_code e.key.program e.key.plan (last e.key.plan) (marks_in e)) tables.ready.now

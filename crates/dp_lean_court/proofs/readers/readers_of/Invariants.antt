@@ -1,6 +1,0 @@
-use Rattle.std.proofs.Common.{◌≡◌, ◌++◌, drop, map}
-use Rattle.dp_lean_court.specs.steps.Within.{read_of}
-use Rattle.dp_lean_court.proofs.readers.readers_of.Given as goal
-
-abbrev pub invariant-loop-columns : goal.invariant-loop-columns
-invariant-loop-columns l = l.readers ++ map read_of (drop l.columns-index l.stages) ≡ map read_of l.stages
