@@ -9,8 +9,7 @@ use Rattle.dp_lean_court.proofs.told.ToldBatch.next_end.Goals as goal
 
 pub returns-in-Over : goal.returns-in-Over
 returns-in-Over c =
-    let old = c.args.self.now in
-    (
+    let old = c.args.self.now in (
       ap (λ (vs : List Verdict). vs ++ ending old.end) (none_clean old c.requires) ∙ ap (λ (t : ToldEnd). ending t) c.in-Over.is,
       ap (λ (vs : List Verdict). vs ++ []) (none_clean (record old { end = Over }) c.requires),
     )
