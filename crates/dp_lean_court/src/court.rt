@@ -66,7 +66,8 @@ impl LeanCourt {
 
     /// The judging where an epoch begins: in this memory, with the steps that are left of the fuel.
     pub fn new(alloc: Global, base: Cells, left: u64) -> LeanCourt
-        ensures begins { (e : LeanEpoch) → IsLeanEpoch e → HasJudgeLaws e → LeanJudges e.key 0 e.key.base → e.key.base ≡ base → left ≡ e.key.fuel - e.key.steps → Judges result e 0 }
+        ensures begins { (e : LeanEpoch) → IsLeanEpoch e → HasJudgeLaws e → LeanJudges e.key 0 e.key.base →
+            e.key.base ≡ base → left ≡ e.key.fuel - e.key.steps → Judges result e 0 }
     {
         LeanCourt {
             alloc,
@@ -78,8 +79,9 @@ impl LeanCourt {
     /// What is decided of the iterations of a batch that came to their end, up to the first behind which none follows; they are told.
     fn decide<'p>(&mut self, batch: &LeanBatch<'p>, told: &mut ToldBatch) -> Decision
         requires ungiven { IsUngiven told.old }
-        ensures came { (e : LeanEpoch) (b : ℕ) (ends : NetStatus) → AsStatus batch.now.status ends → Judges self.old e b → IsSent e (length e.key.plan.stages) b batch.now →
-            cleans told.old ≡ [] → CameTo e b batch.now.iterations result self.new.bench.left self.new.bench.cells (cleans told.new) }
+        ensures came { (e : LeanEpoch) (b : ℕ) (ends : NetStatus) → AsStatus batch.now.status ends → Judges self.old e b →
+            IsSent e (length e.key.plan.stages) b batch.now → cleans told.old ≡ [] →
+            CameTo e b batch.now.iterations result self.new.bench.left self.new.bench.cells (cleans told.new) }
     {
         let stages = batch.stages();
         match readers_of(self.alloc, stages, &mut self.rooms) {
@@ -113,7 +115,8 @@ impl LeanCourt {
 
     /// Tells the verdicts on a batch.
     pub fn judge<'p>(&mut self, batch: &LeanBatch<'p>, told: &mut ToldBatch)
-        ensures gives { (e : LeanEpoch) (b : ℕ) → Judges self.old e b → IsSent e (length e.key.plan.stages) b batch.now → Gives self.new e b batch.now.status told.new }
+        ensures gives { (e : LeanEpoch) (b : ℕ) → Judges self.old e b → IsSent e (length e.key.plan.stages) b batch.now →
+            Gives self.new e b batch.now.status told.new }
     {
         told.clear();
         let decision = self.decide_known(batch, told);

@@ -150,7 +150,8 @@ impl Bench {
         ensures kept { AllKept readers.new tables.entry.ready.now.entries }
         ensures ungiven { result ≡ decision.Goes → IsUngiven told.new }
         ensures comes { (e : LeanEpoch) (b n : ℕ) → CameIn e b n stages.now → JudgesBy e tables.entry → place < n →
-            Within e b n place self.old.left self.old.cells readers.old (cleans told.old) → Comes e b n place result self.new.left self.new.cells readers.new (cleans told.new) }
+            Within e b n place self.old.left self.old.cells readers.old (cleans told.old) →
+            Comes e b n place result self.new.left self.new.cells readers.new (cleans told.new) }
     {
         match self.look(tables.ready, readers) {
             LeanJudged::Holds { closing } => match left_behind(self.left, stages, place) {
@@ -183,7 +184,8 @@ impl Bench {
         requires kept { AllKept readers.old tables.ready.now.entries }
         requires ungiven { IsUngiven told.old }
         ensures comes { (e : LeanEpoch) (b : ℕ) → CameIn e b iterations stages.now → JudgesBy e tables.entry →
-            Within e b iterations 0 self.old.left self.old.cells readers.old (cleans told.old) → CameTo e b iterations result self.new.left self.new.cells (cleans told.new) }
+            Within e b iterations 0 self.old.left self.old.cells readers.old (cleans told.old) →
+            CameTo e b iterations result self.new.left self.new.cells (cleans told.new) }
     {
         for place in 0..iterations {
             match self.decide(tables, stages, place, readers, told) {

@@ -4,6 +4,7 @@
 mod court;
 mod fuel;
 mod judging;
+mod parts;
 mod told;
 
 pub use court::LeanCourt;

@@ -1,11 +1,12 @@
 //! What is decided of a batch, verdict by verdict.
-ghost use Rattle.std.specs.Prelude.{◌≡◌, ◌+◌, ◌++◌, ◌∷◌, [], drop, length, min, slice_get, take, ◌≤◌, Some, IfOk, MatchOption, OnErr, OnOk};
+ghost use Rattle.std.specs.Prelude.{◌≡◌, ◌++◌, ◌∷◌, [], length, slice_get, ◌≤◌, Some, IfOk, MatchOption, OnErr, OnOk};
 ghost use Rattle.std.specs.List.{list_all};
 ghost use Rattle.dp_judge.specs.Told.{goes_on_behind};
 ghost use Rattle.dp_judge.specs.declared.verdict.Verdict.TheVariants as verdict;
 ghost use Rattle.dp_lean_court.specs.Decided.{IsNext, cleans, ending, left_to_give};
-ghost use Rattle.dp_lean_court.specs.steps.Adding.{IsUngiven, none_closing};
+ghost use Rattle.dp_lean_court.specs.steps.Adding.{IsUngiven, carried_by};
 
+use crate::parts::{is_over, left_from, none_closes, part_of, place_behind};
 use dp_base::StoreOf;
 use dp_judge::{Clean, Verdict};
 use dp_room::{NoMemory, Row};
@@ -60,53 +61,6 @@ impl Drop for ToldBatch {
     }
 }
 
-/// None of these leaves the region.
-fn none_closes(parts: &[Part]) -> bool
-    ensures { result ≡ none_closing parts.now }
-{
-    for part in parts {
-        if part.closing {
-            return false;
-        }
-    }
-    true
-}
-
-/// Nothing stands behind the clean iterations.
-fn is_over(end: ToldEnd) -> bool
-    ensures { result ≡ list_all goes_on_behind (ending end) }
-{
-    match end {
-        ToldEnd::Over => true,
-        ToldEnd::Unclean => false,
-        ToldEnd::NoMemory => false,
-    }
-}
-
-/// The items from a place on.
-fn left_from<T>(items: &[T], from: usize) -> &[T]
-    ensures { result.now ≡ drop from items.now }
-{
-    let from_here = from.min(items.len());
-    &items[from_here..]
-}
-
-/// So many items from a place on.
-fn part_of<T>(items: &[T], from: usize, count: usize) -> &[T]
-    ensures { result.now ≡ take count (drop from items.now) }
-{
-    let rest = left_from(items, from);
-    let within = count.min(rest.len());
-    &rest[..within]
-}
-
-/// The place behind so many items.
-fn place_behind(from: usize, count: usize, places: usize) -> usize
-    ensures { result ≡ min (from + count) places }
-{
-    from.saturating_add(count).min(places)
-}
-
 impl ToldBatch {
     /// No verdict. It takes no memory until there is one.
     pub fn new(alloc: Global) -> ToldBatch
@@ -149,7 +103,8 @@ impl ToldBatch {
     ) -> Result<(), NoMemory>
         requires { IsUngiven self.old }
         ensures ungiven { OnOk result (IsUngiven self.new) }
-        ensures more { OnOk result (cleans self.new ≡ cleans self.old ++ verdict.Clean (record { stores = stores.now; prints = prints.now; steps = steps; closing = closing }) ∷ []) }
+        ensures more { OnOk result (cleans self.new ≡ cleans self.old
+            ++ verdict.Clean (record { stores = stores.now; prints = prints.now; steps = steps; closing = closing }) ∷ []) }
         ensures same { OnErr result (cleans self.new ≡ cleans self.old) }
     {
         self.stores.extend_from_slice(stores)?;
@@ -182,7 +137,7 @@ impl ToldBatch {
 
     /// What is carried of the next clean iteration.
     fn carried(&self, part: Part) -> Result<Clean, NoMemory>
-        ensures { IfOk result (λ v. v ≡ record { stores = take part.stores (drop self.now.stores_given self.now.stores); prints = take part.prints (drop self.now.prints_given self.now.prints); steps = part.steps; closing = part.closing }) }
+        ensures { IfOk result (λ v. v ≡ carried_by self.now part) }
     {
         let stores = part_of(self.stores.as_slice(), self.stores_given, part.stores);
         let prints = part_of(self.prints.as_slice(), self.prints_given, part.prints);
@@ -194,7 +149,7 @@ impl ToldBatch {
     /// The next one is given.
     fn pass(&mut self, part: Part)
         requires { slice_get self.old.parts self.old.given ≡ Some part }
-        ensures next { cleans self.old ≡ verdict.Clean (record { stores = take part.stores (drop self.old.stores_given self.old.stores); prints = take part.prints (drop self.old.prints_given self.old.prints); steps = part.steps; closing = part.closing }) ∷ cleans self.new }
+        ensures next { cleans self.old ≡ verdict.Clean (carried_by self.old part) ∷ cleans self.new }
         ensures end { self.new.end ≡ self.old.end }
     {
         let parts = self.parts.len();

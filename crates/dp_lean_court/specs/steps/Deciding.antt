@@ -48,7 +48,8 @@ pub record Committed (locals : List CellId) (after : ℕ) (closing : Bool) (old 
   pub cells : new.cells ≡ clear_cells locals old.cells
   pub ungiven : IsUngiven told_new
   pub told : cleans told_new
-      ≡ cleans told_old ++ verdict.Clean (record { stores = old.collected.stores; prints = old.collected.prints; steps = old.left - after; closing = closing }) ∷ []
+      ≡ cleans told_old
+      ++ verdict.Clean (record { stores = old.collected.stores; prints = old.collected.prints; steps = old.left - after; closing = closing }) ∷ []
 
 -- Nothing more is told, and the memory is what it was before the iteration.
 pub record Undone (old new : Bench) (told_old told_new : ToldBatch) : Type 0 where
