@@ -89,7 +89,7 @@ module _ {p : Program} {plan : Plan} {first : ℕ} {kinds : List (List ColumnKin
       IsJudging v.program v.plan t
   judging_there v view t ready_is locals_is = subst (λ (w : LeanRegion). IsJudging w.program w.plan t) view (record {
     ready = subst (λ (ready : Ready). IsReady p plan (lean_code p plan (last plan) (paying_marks p plan)) ready) (sym ready_is) r.judge.ready;
-    kept = λ readers same. subst (λ (ready : Ready). AllKept readers ready.entries) (sym ready_is) (r.judge.kept readers (same ∙ sym r.columns));
+    kept = λ readers same. subst (λ (ready : Ready). AllKept readers ready.entries) (sym ready_is) (r.judge.kept readers same);
     locals = locals_is ∙ r.body;
   })
 

@@ -5,3 +5,6 @@ pub mod FedBy
 pub mod AllOver
 pub mod Capped
 pub mod Holding
+pub mod SeatKinds
+pub mod ReadCodes
+pub mod EntriesRead

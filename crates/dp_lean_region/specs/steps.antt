@@ -1,4 +1,2 @@
 pub mod Fed
-pub mod KeptAmong
-pub mod StandIn
 pub mod Tables

@@ -7,9 +7,7 @@ ghost use Rattle.dp_lean_region.specs.Region.{IsFitting};
 ghost use Rattle.dp_lean_region.specs.steps.Tables.{IsJudgeMade};
 
 use crate::capping::cap_of;
-use crate::keeping::all_kept;
-use dp_base::{NoMemory, Row};
-use dp_columns::ColumnKind;
+use dp_base::NoMemory;
 use dp_lean_code::{LeanProgram, LeanTables, lean_program};
 use dp_lean_judge::Ready;
 use dp_plan::Plan;
@@ -54,25 +52,20 @@ fn judge_code(
     lean_program(alloc, program, plan, tables, number)
 }
 
-/// What the judge runs on, where these are the kinds of the stages' columns. No entry is known that reads what a column of another kind
-/// keeps; one that did would answer want of memory.
+/// What the judge runs on.
 pub(crate) fn judge_of(
     alloc: Global,
     program: &Program,
     plan: &Plan,
     tables: &LeanTables,
-    kinds: &[Row<ColumnKind>],
 ) -> Result<JudgeMade, NoMemory>
     requires fitting { IsFitting program.now plan.now }
     requires known { AreTablesOf program.now plan.now tables.now }
-    ensures { IfOk result (IsJudgeMade program.now plan.now kinds.now) }
+    ensures { IfOk result (IsJudgeMade program.now plan.now) }
 {
     let code = judge_code(alloc, program, plan, tables)?;
     let ops = code.ops.as_slice();
     let ready = Ready::new(alloc, program, plan, ops)?;
-    if !all_kept(kinds, ready.entries.as_slice()) {
-        return Err(NoMemory);
-    }
     let cap = cap_of(alloc, program, plan, tables, ops)?;
     Ok(JudgeMade { ready, cap })
 }

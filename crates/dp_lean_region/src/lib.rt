@@ -8,13 +8,12 @@ mod capping;
 mod counting;
 mod feeding;
 mod judging;
-mod keeping;
+mod kinds;
 mod law;
 mod line;
 mod locals;
 mod region;
 mod stages;
-mod stand_in;
 
 pub use line::{JudgeTables, Line, ReadyStage};
 pub use region::RegionTables;

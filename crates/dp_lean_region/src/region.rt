@@ -10,7 +10,7 @@ ghost use Rattle.dp_lean_region.specs.Line.{IsEpochOf, RunsIn};
 ghost use Rattle.dp_lean_region.specs.Laws.{AreLawful};
 
 use crate::judging::{JudgeMade, judge_of};
-use crate::keeping::plan_kinds;
+use crate::kinds::plan_kinds;
 use crate::law::{epochs_are_lawful, given_plans_fit};
 use crate::locals::local_cells;
 use crate::stages::{Lent, StageTables, stage_tables, staged};
@@ -84,7 +84,7 @@ impl<'p> RegionTables<'p> {
         let tables = LeanTables::of(alloc, program, plan)?;
         let kinds = plan_kinds(alloc, program, plan, &tables)?;
         let stages = stage_tables(alloc, program, plan, &tables, kinds.as_slice())?;
-        let judge = judge_of(alloc, program, plan, &tables, kinds.as_slice())?;
+        let judge = judge_of(alloc, program, plan, &tables)?;
         let locals = local_cells(alloc, plan.region, program.vars.as_slice())?;
         Ok(RegionTables {
             program,

@@ -7,11 +7,10 @@ ghost use Rattle.dp_lean_region.specs.steps.Tables.{AreAllStages, IsStage, IsSta
 
 use crate::ReadyStage;
 use crate::counting::stage_count;
-use crate::stand_in::TurnTables;
 use dp_base::{CellId, NoMemory, Row};
 use dp_columns::ColumnKind;
 use dp_lean_code::{LeanProgram, LeanTables, lean_program};
-use dp_lean_turn::{Frame, Kinds};
+use dp_lean_turn::{Frame, Kinds, TurnTables};
 use dp_plan::Plan;
 use dp_tree::Program;
 use std::alloc::Global;

@@ -7,6 +7,8 @@ use Rattle.dp_plan.specs.Access.{first_site}
 use Rattle.dp_semantics.specs.Judge.{last}
 use Rattle.dp_judge.specs.Locals.{local_cells}
 use Rattle.dp_columns.specs.declared.ColumnKind.{ColumnKind}
+use Rattle.dp_columns.specs.Left.{Left}
+use Rattle.dp_lean_turn.specs.Left.{all_kinds}
 use Rattle.dp_lean_code.specs.Known.{paying_marks}
 use Rattle.dp_lean_code.specs.LeanCode.{lean_code}
 use Rattle.dp_lean_turn.specs.declared.Kinds.{Kinds}
@@ -14,8 +16,7 @@ use Rattle.dp_lean_turn.specs.Standing.{AreHidden}
 use Rattle.dp_lean_turn.specs.Standing as standing
 use Rattle.dp_lean_judge.specs.Ready.{AllKept, IsReady}
 use Rattle.dp_lean_region.specs.Region.{IsCap, IsFitting, plan_kinds}
-use Rattle.dp_lean_region.specs.steps.KeptAmong.{ForReaders}
-use Rattle.dp_lean_region.specs.steps.StandIn.{AreTurnTables}
+use Rattle.dp_lean_turn.specs.Made.{AreTurnTables}
 use Rattle.dp_lean_region.specs.declared.line.ReadyStage.{ReadyStage}
 use Rattle.dp_lean_region.specs.declared.stages.StageTables.{StageTables}
 use Rattle.dp_lean_region.specs.declared.judging.JudgeMade.{JudgeMade}
@@ -38,9 +39,9 @@ module _ (p : Program) (plan : Plan) where
     pub each : AreStages kinds stages
 
   -- the judge's code, which can read what is kept, and how many iterations go together
-  pub record IsJudgeMade (kinds : List (List ColumnKind)) (j : JudgeMade) : Type 0 where
+  pub record IsJudgeMade (j : JudgeMade) : Type 0 where
     pub ready : IsReady p plan (lean_code p plan (last plan) (paying_marks p plan)) j.ready
-    pub kept : ForReaders kinds (λ readers. AllKept readers j.ready.entries)
+    pub kept : (readers : List Left) → all_kinds readers ≡ plan_kinds p plan → AllKept readers j.ready.entries
     pub cap : IsCap p plan j.cap
 
   -- what all tables of a region are
@@ -50,7 +51,7 @@ module _ (p : Program) (plan : Plan) where
     pub columns : kinds ≡ plan_kinds p plan
     pub all : AreAllStages kinds stages
     pub body : locals ≡ local_cells plan.region p.vars
-    pub judge : IsJudgeMade kinds j
+    pub judge : IsJudgeMade j
 
   -- the stage at a place, ready for an input
   pub record IsStaged (kinds : List (List ColumnKind)) (at : ℕ) (input : List ℤ) (locals : List CellId) (r : ReadyStage) : Type 0 where

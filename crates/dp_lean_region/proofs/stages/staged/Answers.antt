@@ -1,7 +1,7 @@
 use Rattle.std.proofs.Common.{refl, sym, subst, ◌∙◌, List}
 use Rattle.dp_lean_code.specs.declared.LeanOp.{LeanOp}
 use Rattle.dp_lean_turn.specs.declared.Frame.{Frame}
-use Rattle.dp_lean_region.specs.steps.StandIn.{AreTurnTables}
+use Rattle.dp_lean_turn.specs.Made.{AreTurnTables}
 use Rattle.dp_lean_region.proofs.stages.staged.Goals as goal
 
 pub returns : goal.returns

@@ -4,7 +4,7 @@ use Rattle.dp_columns.specs.declared.ColumnKind.{ColumnKind}
 use Rattle.dp_lean_code.specs.declared.LeanOp.{LeanOp}
 use Rattle.dp_lean_code.specs.Known.{paying_marks}
 use Rattle.dp_lean_code.specs.LeanCode.{lean_code}
-use Rattle.dp_lean_region.specs.steps.StandIn.{AreTurnTables}
+use Rattle.dp_lean_turn.specs.Made.{AreTurnTables}
 use Rattle.dp_lean_region.proofs.Holding.{kinds_length}
 use Rattle.dp_lean_region.proofs.SiteKinds.{placed, checked_there}
 use Rattle.dp_lean_region.proofs.stages.tables_of.Goals as goal

@@ -2,7 +2,7 @@ use Rattle.std.proofs.Common.{◌≡◌, ◌+◌, ◌<◌, ap, ◌∙◌, arith,
 use Rattle.dp_lean_code.specs.Known.{paying_marks}
 use Rattle.dp_lean_code.proofs.NeedLists.{number_next}
 use Rattle.dp_lean_kinds.specs.ColumnKinds.{region_kinds}
-use Rattle.dp_lean_region.proofs.keeping.plan_kinds.Goals as goal
+use Rattle.dp_lean_region.proofs.kinds.plan_kinds.Goals as goal
 
 pub loop-place-preserved : goal.loop-place-preserved
 loop-place-preserved c =

@@ -3,7 +3,7 @@ use Rattle.dp_tree.specs.Numbering.{numbers_from}
 use Rattle.dp_lean_code.specs.Known.{paying_marks}
 use Rattle.dp_lean_kinds.specs.ColumnKinds.{region_kinds}
 use Rattle.dp_lean_region.specs.Region.{plan_kinds}
-use Rattle.dp_lean_region.proofs.keeping.plan_kinds.Given as goal
+use Rattle.dp_lean_region.proofs.kinds.plan_kinds.Given as goal
 
 abbrev pub invariant-loop-place : goal.invariant-loop-place
 invariant-loop-place l =
