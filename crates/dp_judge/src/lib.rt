@@ -15,5 +15,6 @@ mod walking;
 
 pub use clean::Clean;
 pub use entries::make_entries;
+pub use locals::clear;
 pub use trying::TryCommit;
 pub use verdict::Verdict;

@@ -24,7 +24,7 @@ pub(crate) fn local_cells(
 }
 
 /// These cells read 0.
-pub(crate) fn clear(locals: &[CellId], cells: &mut Cells)
+pub fn clear(locals: &[CellId], cells: &mut Cells)
     ensures { cells.new ≡ definition.clear_cells locals.now cells.old }
 {
     for cell in locals {

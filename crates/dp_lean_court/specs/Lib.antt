@@ -1,0 +1,4 @@
+pub mod Decided
+pub mod Verdicts
+pub mod Judging
+pub mod steps
