@@ -5,7 +5,7 @@ use dp_base::{Row, StoreOf};
 use std::marker::Model;
 
 /// A clean iteration: stores that lead to the memory behind it, its prints in the source's order, its number of steps, and
-/// whether it is the closing one. Only a crate that judges makes one, and it isn't copied.
+/// whether it is the closing one. Only a judgement makes one, and it isn't copied.
 #[derive(Drop)]
 pub struct Clean {
     stores: Row<StoreOf>,
@@ -23,8 +23,8 @@ impl Model for Clean {
 }
 
 impl Clean {
-    /// What was agreed on. Nothing but a judging calls this: whoever counts clean iterations counts what was judged.
-    pub fn of(stores: Row<StoreOf>, prints: Row<i64>, steps: u64, closing: bool) -> Clean
+    /// What was agreed on.
+    pub(crate) fn agree(stores: Row<StoreOf>, prints: Row<i64>, steps: u64, closing: bool) -> Clean
         ensures { result ≡ record { stores = stores; prints = prints; steps = steps; closing = closing } }
     {
         Clean {

@@ -2,8 +2,8 @@
 use Rattle.dp_semantics.proofs.Names.{◌≡◌, inl, inr, refl, sym, ap, ◌∙◌, subst, arith, ℕ, suc, ◌+◌, ◌-◌, ◌<◌, ◌≤◌, Bool, true, false, ◌⊎◌, cases_lt, List, [], ◌∷◌, ◌++◌, ℤ, map, sum_by, clear_locals, Program, numbers_from, flat_map}
 use Rattle.dp_base.specs.declared.CellId.{CellId}
 use Rattle.dp_plan.specs.declared.Plan.{Plan}
-use Rattle.dp_judge.specs.Locals.{clear_cells, local_cells}
-use Rattle.dp_judge.proofs.LocalLemmas.{clear_local_cells}
+use Rattle.dp_lean_judge.specs.Locals.{clear_cells, local_cells}
+use Rattle.dp_lean_judge.proofs.LocalLemmas.{clear_local_cells}
 use Rattle.dp_net.specs.NetItems.{Item}
 use Rattle.dp_net.specs.NetPackets.{NetClosing, net_status_of}
 use Rattle.dp_lean.specs.Queues.{Told, steps_in}

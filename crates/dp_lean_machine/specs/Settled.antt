@@ -1,6 +1,6 @@
 -- What a stage does behind a turn.
 use Rattle.std.specs.Prelude.{◌≡◌, ℕ, List, [], ◌∷◌, ◌++◌, ℤ}
-use Rattle.dp_judge.specs.Locals.{clear_cells}
+use Rattle.dp_lean_judge.specs.Locals.{clear_cells}
 use Rattle.dp_lean_turn.specs.declared.Turn.{Turn}
 use Rattle.dp_lean_region.specs.declared.ReadyStage.{ReadyStage}
 

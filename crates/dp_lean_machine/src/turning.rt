@@ -1,7 +1,7 @@
 //! The turns of a stage for the iterations of a batch.
 ghost use Rattle.std.specs.Prelude.{◌≡◌, ◌<◌, ℕ, ◌++◌, ◌∷◌, [], OnOk};
 ghost use Rattle.dp_tree.specs.Step.{clear_locals};
-ghost use Rattle.dp_judge.specs.Locals.{clear_cells};
+ghost use Rattle.dp_lean_judge.specs.Locals.{clear_cells};
 ghost use Rattle.dp_lean_turn.specs.Ending.{CanTurn, TurnIs};
 ghost use Rattle.dp_lean_turn.specs.Standing.{Keeps};
 ghost use Rattle.dp_lean_epoch.specs.LeanBatch.{Stood};

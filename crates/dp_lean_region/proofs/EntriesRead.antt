@@ -9,7 +9,7 @@ use Rattle.dp_plan.specs.Access.{first_site}
 use Rattle.dp_semantics.specs.Fits.{fits_plan}
 use Rattle.dp_semantics.specs.Judge.{last}
 use Rattle.dp_semantics.proofs.Each.{Each}
-use Rattle.dp_judge.specs.Judging.{HasStages}
+use Rattle.dp_lean_judge.specs.Stages.{HasStages}
 use Rattle.dp_code.specs.declared.Op.TheVariants as op
 use Rattle.dp_columns.specs.Left.{Left}
 use Rattle.dp_columns.specs.declared.ColumnKind.{ColumnKind}

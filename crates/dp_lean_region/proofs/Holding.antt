@@ -8,7 +8,7 @@ use Rattle.dp_tree.specs.Numbering.{numbers_from}
 use Rattle.dp_plan.specs.declared.Plan.{Plan}
 use Rattle.dp_plan.specs.Access.{first_site}
 use Rattle.dp_semantics.specs.Judge.{last}
-use Rattle.dp_judge.specs.Locals.{local_cells}
+use Rattle.dp_lean_judge.specs.Locals.{local_cells}
 use Rattle.dp_net.specs.NetItems.{Marks}
 use Rattle.dp_net.specs.Hidden.{marks_of, pays_off}
 use Rattle.dp_columns.specs.declared.ColumnKind.{ColumnKind}

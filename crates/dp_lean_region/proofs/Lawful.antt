@@ -3,7 +3,7 @@ use Rattle.dp_semantics.proofs.Names.{◌≡◌, refl, sym, ap, ◌∙◌, subst
 use Rattle.dp_tree.specs.Inlined.{IsInlined}
 use Rattle.dp_semantics.specs.EpochKey.{EpochKey}
 use Rattle.dp_semantics.proofs.StageKinds.{fitting_kinds}
-use Rattle.dp_judge.specs.Judging.{HasStages}
+use Rattle.dp_lean_judge.specs.Stages.{HasStages}
 use Rattle.dp_theorem.proofs.Fitting.{accepted}
 use Rattle.dp_net.specs.Hidden.{pays_off}
 use Rattle.dp_lean_code.specs.Known.{paying_marks}

@@ -6,7 +6,7 @@ use Rattle.dp_semantics.proofs.Each.{Each, each_join, each_split}
 use Rattle.dp_semantics.proofs.Heads.{accesses_all, accesses_at, accesses_out, head_access}
 use Rattle.dp_semantics.proofs.Setting.{Sound}
 use Rattle.dp_theorem.proofs.Fitting.{accepted}
-use Rattle.dp_judge.specs.Judging.{HasStages}
+use Rattle.dp_lean_judge.specs.Stages.{HasStages}
 use Rattle.dp_code.specs.declared.Op.TheVariants as op
 use Rattle.dp_net.specs.NetItems.{Marks}
 use Rattle.dp_net.specs.Hidden.{pays_off}

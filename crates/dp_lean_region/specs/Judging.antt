@@ -3,7 +3,7 @@ use Rattle.std.specs.Prelude.{◌≡◌, List}
 use Rattle.dp_tree.specs.declared.Program.{Program}
 use Rattle.dp_plan.specs.declared.Plan.{Plan}
 use Rattle.dp_semantics.specs.Judge.{last}
-use Rattle.dp_judge.specs.Locals.{local_cells}
+use Rattle.dp_lean_judge.specs.Locals.{local_cells}
 use Rattle.dp_columns.specs.Left.{Left}
 use Rattle.dp_lean_code.specs.Known.{paying_marks}
 use Rattle.dp_lean_code.specs.LeanCode.{lean_code}

@@ -1,7 +1,7 @@
 -- Stages that are ready to be run.
 use Rattle.std.specs.Prelude.{◌≡◌, ℕ, List, [], take, get_or}
 use Rattle.dp_plan.specs.Access.{first_site}
-use Rattle.dp_judge.specs.Locals.{local_cells}
+use Rattle.dp_lean_judge.specs.Locals.{local_cells}
 use Rattle.dp_columns.specs.declared.ColumnKind.{ColumnKind}
 use Rattle.dp_lean_turn.specs.Standing.{IsReady}
 use Rattle.dp_lean_region.specs.declared.line.ReadyStage.{ReadyStage}

@@ -8,7 +8,7 @@ use Rattle.dp_plan.specs.CheckedTable.{IsTabled}
 use Rattle.dp_semantics.specs.Fits.{fits_plan}
 use Rattle.dp_semantics.specs.EpochKey.{EpochKey}
 use Rattle.dp_net.specs.Hidden.{pays_off}
-use Rattle.dp_judge.specs.Judging.{HasStages}
+use Rattle.dp_lean_judge.specs.Stages.{HasStages}
 use Rattle.dp_columns.specs.declared.ColumnKind.{ColumnKind}
 use Rattle.dp_lean_code.specs.Known.{paying_marks}
 use Rattle.dp_lean_epoch.specs.Steps.{keeps_memory}

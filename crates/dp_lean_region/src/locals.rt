@@ -1,6 +1,6 @@
 //! The cells of a region's body locals.
 ghost use Rattle.std.specs.Prelude.{◌≡◌, IfOk};
-ghost use Rattle.dp_judge.specs.Locals as definition;
+ghost use Rattle.dp_lean_judge.specs.Locals as definition;
 
 use dp_base::{CellId, NoMemory, Row};
 use dp_tree::VarInfo;

@@ -12,7 +12,7 @@ use Rattle.dp_finding.specs.declared.court.Court.{Court}
 use Rattle.dp_finding.specs.declared.court.Entry.{Entry}
 use Rattle.dp_judge.specs.Entries.{entries_of}
 use Rattle.dp_judge.specs.Judging.{IsCourt}
-use Rattle.dp_judge.proofs.GivenStages.{given_stages}
+use Rattle.dp_lean_judge.proofs.GivenStages.{given_stages}
 use Rattle.dp_prepared.specs.Planned.{IsPlanned}
 use Rattle.dp_prepared.specs.Regions.{IsRegion}
 use Rattle.dp_prepared.proofs.CodeLists.{code_of_stage}

@@ -5,7 +5,7 @@ use Rattle.dp_tree.specs.declared.Program.{Program}
 use Rattle.dp_plan.specs.declared.Plan.{Plan}
 use Rattle.dp_plan.specs.Access.{first_site}
 use Rattle.dp_semantics.specs.Judge.{last}
-use Rattle.dp_judge.specs.Locals.{local_cells}
+use Rattle.dp_lean_judge.specs.Locals.{local_cells}
 use Rattle.dp_columns.specs.declared.ColumnKind.{ColumnKind}
 use Rattle.dp_columns.specs.Left.{Left}
 use Rattle.dp_lean_turn.specs.Left.{all_kinds}

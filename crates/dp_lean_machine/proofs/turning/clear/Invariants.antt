@@ -1,5 +1,5 @@
 use Rattle.std.proofs.Common.{◌≡◌, drop}
-use Rattle.dp_judge.specs.Locals.{clear_cells}
+use Rattle.dp_lean_judge.specs.Locals.{clear_cells}
 use Rattle.dp_lean_machine.proofs.turning.clear.Given as goal
 
 abbrev pub invariant-loop-cell : goal.invariant-loop-cell

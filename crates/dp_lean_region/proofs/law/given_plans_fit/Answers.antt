@@ -1,4 +1,4 @@
-use Rattle.dp_judge.proofs.GivenStages.{given_stages}
+use Rattle.dp_lean_judge.proofs.GivenStages.{given_stages}
 use Rattle.dp_theorem.proofs.GivenFits.{given_fits, given_tabled}
 use Rattle.dp_lean_region.proofs.law.given_plans_fit.Goals as goal
 

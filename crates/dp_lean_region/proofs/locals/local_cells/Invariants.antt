@@ -1,5 +1,5 @@
 use Rattle.std.proofs.Common.{◌≡◌, ◌++◌, drop}
-use Rattle.dp_judge.specs.Locals.{local_cells}
+use Rattle.dp_lean_judge.specs.Locals.{local_cells}
 use Rattle.dp_lean_region.proofs.locals.local_cells.Given as goal
 
 abbrev pub invariant-loop-info : goal.invariant-loop-info

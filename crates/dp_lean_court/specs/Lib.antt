@@ -1,4 +1,0 @@
-pub mod Decided
-pub mod Verdicts
-pub mod Judging
-pub mod steps
