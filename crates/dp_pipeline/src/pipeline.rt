@@ -37,9 +37,11 @@ impl<'u> Pipeline<'u> {
         ensures setter { setter.new ≡ setter.old }
         ensures verdicts { IfOk result (λ made. made.verdicts ≡ record { key = key_at region.now input.now begin.entry; given = 0 }) }
     {
-        let epoch = EpochKey::copied(region, input, begin)?;
+        let line = region.line(input);
+        line.epochs_are_lawful();
+        let epoch = EpochKey::copied(line, begin)?;
         let key = LaneKey { epoch, stage: 1 };
-        let setting = Setting { region, size, key };
+        let setting = Setting { line, size, key };
         pipeline_of(alloc, setting, setter)
     }
 }

@@ -22,7 +22,7 @@ pub struct LaneVerdicts<'u> {
     /// What came and isn't given yet.
     told: Told,
     /// Where the batches that were judged are sent back.
-    back: Back,
+    back: Back<'u>,
 }
 
 // By hand, so that a crate above doesn't prove again how all that they hold is dropped.
@@ -51,7 +51,7 @@ impl<'u> Model for LaneVerdicts<'u> {
 
     ghost view = { λ v. coming_on v.end.view v.told.given };
 
-    ghost invariant = { λ v. AwaitsOn v.end.view v.told };
+    ghost invariant = { λ v. AwaitsOn v.end.view v.back.end.view v.told };
 }
 
 impl<'u> LaneVerdicts<'u> {
@@ -59,11 +59,13 @@ impl<'u> LaneVerdicts<'u> {
     ghost use Rattle.dp_semantics.specs.EpochVerdicts.{goes_on, verdict_at};
     ghost use Rattle.dp_judge.specs.Told.{Says};
     ghost use Rattle.dp_pipeline.specs.Coming.{Comes, coming_on};
+    ghost use Rattle.dp_pipeline.specs.Left.{BackOf};
     ghost use Rattle.dp_pipeline.specs.Standing.{taken_by};
 
     /// Verdicts that come on this end, from which nothing was taken, and no units. Batches that were judged are sent back.
-    pub(crate) fn new(alloc: Global, end: TakeEnd<Judged<'u>>, back: Back) -> LaneVerdicts<'u>
-        requires { taken_by end.view ≡ 0 }
+    pub(crate) fn new(alloc: Global, end: TakeEnd<Judged<'u>>, back: Back<'u>) -> LaneVerdicts<'u>
+        requires none { taken_by end.view ≡ 0 }
+        requires back { BackOf end.view back.end.view }
         ensures { result ≡ coming_on end.entry.view 0 }
     {
         LaneVerdicts {
