@@ -20,7 +20,10 @@ use Rattle.dp_tree.proofs.VarScope.TheSendSync as var_scope
 use Rattle.dp_tree.specs.contracts.Function as Function
 use Rattle.dp_tree.specs.contracts.Program as Program
 use Rattle.dp_plan.proofs.Plan.TheSendSync as plan
-use Rattle.dp_lean_judge.proofs.ready.Ready.TheSendSync as judge_ready
+use Rattle.dp_base.proofs.CellId.TheSendSync as cell
+use Rattle.dp_columns.proofs.ColumnKind.TheSendSync as kind
+use Rattle.dp_lean_region.proofs.judging.JudgeMade.TheSendSync as judge_made
+use Rattle.dp_lean_region.proofs.stages.StageTables.TheSendSync as stage_tables
 use Rattle.dp_lean_region.specs.contracts.region.RegionTables as Region
 use Rattle.dp_lean_region.specs.contracts.region.RegionTables.TheInside as RegionInside
 use Rattle.dp_lean_region.specs.contracts.line.Line as Line
@@ -49,7 +52,7 @@ pub program_sync : IsSync Program.the_row
 program_sync = recorded_sync (Program.the_field).row _ _ (Program.the_type).to_one program_field_sync
 
 tables_field_sync : (a : NamedLft) → IsSync (RegionInside.the_field a).row
-tables_field_sync a = let p = program_sync in let q = program_field_sync in search (plan.the_sync, judge_ready.the_sync, judge_ready.the_field_sync, row.the_sync, crossing.crosses, sendable) depth 60 fits 20000
+tables_field_sync a = let p = program_sync in let q = program_field_sync in search (plan.the_sync, cell.the_field_sync, cell.the_sync, kind.the_field_sync, kind.the_sync, judge_made.the_field_sync, judge_made.the_sync, stage_tables.the_field_sync, stage_tables.the_sync, row.the_sync, crossing.crosses, sendable) depth 60 fits 20000
 
 tables_inside_sync : (a : NamedLft) → IsSync (RegionInside.the_row a)
 tables_inside_sync a = recorded_sync (RegionInside.the_field a).row _ _ (RegionInside.the_type a).to_one (tables_field_sync a)

@@ -1,9 +1,7 @@
 use denote.Param.Send.{sendable}
 use Rattle.dp_pipeline.proofs.Crossing.{spare_send}
-use Rattle.std.proofs.Common.{rules, ◌≡◌, sym, ap, subst, refl}
+use Rattle.std.proofs.Common.{ap, refl}
 use Rattle.dp_lane.specs.Ends.{End}
-use Rattle.dp_lean_machine.specs.declared.batch.LeanBatch.{LeanBatch}
-use Rattle.dp_lean_machine.specs.Fresh.{IsFresh}
 use Rattle.dp_pipeline.specs.declared.keys.LaneKey.{LaneKey}
 use Rattle.dp_pipeline.specs.declared.supply.Supply.{Supply}
 use Rattle.dp_pipeline.proofs.Supplied.{came_fresh, came_supplies, none_supplies}
@@ -14,9 +12,7 @@ take-requires-send-T g c κs within = search (spare_send, sendable) depth 60 fit
 
 pub returns-in-Some-clause-fresh : goal.returns-in-Some-clause-fresh
 returns-in-Some-clause-fresh g c =
-    let same : c.in-Some.batch ≡ c.in-Some.field-0.batch = search rules in
-    came_fresh c.args.self.now c.take.new.self.view c.in-Some.field-0 c.renew.result c.args.first c.args.size c.in-Some.ensures.1
-    (subst (λ (x : LeanBatch). IsFresh x.line c.args.first c.args.size c.renew.result) same c.renew.ensures.fresh)
+    came_fresh c.args.self.now c.take.new.self.view c.in-Some.field-0 c.renew.result c.args.first c.args.size c.in-Some.ensures.1 c.renew.ensures.fresh
 
 pub returns-in-Some-clause-stays : goal.returns-in-Some-clause-stays
 returns-in-Some-clause-stays g c =
