@@ -16,7 +16,7 @@ use crate::spare::{Back, way_back};
 use crate::staffing::{add_unit, add_workers, next_is_replicated};
 use crate::start::Start;
 use crate::target::Target;
-use crate::trying::judging_unit;
+use crate::trying::add_judging;
 use crate::unit::Unit;
 use dp_base::{NoMemory, Row};
 use dp_lane::lane;
@@ -132,8 +132,6 @@ pub(crate) fn pipeline_of<'u>(
         };
         setting.key.stage += 1;
     }
-    let seat = setter.seat()?;
-    let (unit, verdicts) = judging_unit(alloc, setting, source, back, seat)?;
-    units.push(unit)?;
+    let verdicts = add_judging(alloc, setting, source, back, &mut units, setter)?;
     Ok(Pipeline { units, verdicts })
 }

@@ -30,8 +30,8 @@ loop-setting-init c =
       none_staffed x.size.workers x.key.epoch.plan.now x.key.stage (length c.new-units.result) c.requires.stage (ap length c.new-units.ensures),
     )
 
-pub judging_unit-requires-clause-back : goal.judging_unit-requires-clause-back
-judging_unit-requires-clause-back c = subst (λ (k : Held). GoesBack c.in_ok-back.back.end.view (key_of k)) (sym c.loop-setting.invariant.6) c.in_ok-back.ensures.back
+pub add_judging-requires-clause-back : goal.add_judging-requires-clause-back
+add_judging-requires-clause-back c = subst (λ (k : Held). GoesBack c.in_ok-back.back.end.view (key_of k)) (sym c.loop-setting.invariant.6) c.in_ok-back.ensures.back
 
 pub loop-setting-preserved : goal.loop-setting-preserved
 loop-setting-preserved c =
@@ -88,7 +88,7 @@ returns-clause-units c =
     let x = c.loop-setting.setting in
     let behind : x.key.stage ≡ length x.key.epoch.plan.now.stages + 1 = omega (arith, c.loop-setting-test.false, c.loop-setting.invariant.3, c.loop-setting.invariant.5) in
     let all = all_staffed x.size.workers x.key.epoch.plan.now x.key.stage (length c.loop-setting.units) behind c.loop-setting.invariant.10 in
-    let more = ap length c.in_ok-push.ensures.ok in let many = length-append c.loop-setting.units (c.in_ok-unit.unit ∷ []) in
+    let more = c.in_ok-verdicts.ensures.count in
     let same : unit_count x.size.workers x.key.epoch.plan.now ≡ unit_count c.args.setting.size.workers c.args.setting.key.epoch.plan.now =
     (λ i. unit_count (c.loop-setting.invariant.9 i).workers (c.loop-setting.invariant.6 i).plan.now) in
-    omega (arith, more, many, all, same)
+    omega (arith, more, all, same)
