@@ -22,3 +22,15 @@ invariant_of-self-in-Some-take g c =
     let came = refilled v w c.self.inside.back.end.view c.send.new.self.end.view c.in-Some-take.judged t r c.in-Some-take.ensures.1 at none.1 c.if-self.false
     c.send.ensures c.refill-spare.ensures.left c.refill-spare.ensures.over c.refill-spare.ensures.given in
     (first_given w c.send.new.self.end.view r c.next-in-Some-take.new.self c.next-in-Some-take.result came.0 c.next-in-Some-take.ensures).1
+
+pub returns-in-Some-take : goal.returns-in-Some-take
+returns-in-Some-take g c =
+    let v = c.self.inside.end.view in let w = c.take.new.self.view in
+    let t = c.next.new.self in let none = c.in_default.ensures in
+    let kept = none_kept v c.self.inside.back.end.view c.self.inside.told t c.self.invariant none.0 none.1 none.2 none.3 in
+    let r = c.refill-spare.new.self in let u = c.next-in-Some-take.new.self in
+    let came = refilled v w c.self.inside.back.end.view c.send.new.self.end.view c.in-Some-take.judged t r c.in-Some-take.ensures.1 kept.0 none.1 c.if-self.false
+    c.send.ensures c.refill-spare.ensures.left c.refill-spare.ensures.over c.refill-spare.ensures.given in
+    let same : coming_on w r.given ≡ c.args.self.now = came.1 ∙ kept.1 ∙ c.self.view_is in
+    subst (λ (k : Coming). MatchOption c.next-in-Some-take.result (coming_on w u.given ≡ k) (λ (verdict : Verdict). Comes verdict k (coming_on w u.given))) same
+    (first_given w c.send.new.self.end.view r u c.next-in-Some-take.result came.0 c.next-in-Some-take.ensures).0
