@@ -170,17 +170,16 @@ def named(words):
 def main():
     words = sys.argv[1:]
     how = words.pop(0) if words[:1] in (["--codes"], ["--apart"]) else "--together"
-    missing, wrong = 0, []
     with tempfile.TemporaryDirectory() as name:
         folder = Path(name)
         sources = list(written(folder, named(words)))
         if how == "--codes":
             missing = len(proved_together(sources).lost)
-        else:
-            missing, wrong = compare(folder, built_apart(folder, sources) if how == "--apart" else built_together(sources), how == "--together")
+            print("the code of %d of %d programs was proved at once" % (len(sources) - missing, len(sources)))
+            return 1 if missing else 0
+        missing, wrong = compare(folder, built_apart(folder, sources) if how == "--apart" else built_together(sources), how == "--together")
     print("".join("other answers: %s\n" % each for each in wrong), end="")
-    print("%d of %d programs were %sproved at once, %d other answers" % (
-        len(sources) - missing, len(sources), "" if how == "--codes" else "built and ", len(wrong)))
+    print("%d of %d programs were built and proved at once, %d other answers" % (len(sources) - missing, len(sources), len(wrong)))
     return 1 if wrong or missing else 0
 
 
