@@ -8,4 +8,6 @@ for script in examples gallery straight_loop pipeline epochs batch lanes; do
   echo "== bench/$script.sh"
   "./$script.sh" || { failed=1; echo "bench/$script.sh failed"; }
 done
+echo "== bench/marks.py"
+./marks.py || { failed=1; echo "bench/marks.py failed"; }
 exit $failed

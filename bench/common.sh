@@ -33,6 +33,10 @@ words() { awk -v n="$1" -v m="$2" 'BEGIN { x = 7; for (k = 0; k < n; k++) { x = 
 
 # Words of the kind that the program is for, or else those of the example's own input, again and again.
 many_words() {
+  if [ -f "$top/examples/gallery/$1.c" ]; then
+    "$top/examples/gallery/inputs.py" "$1" long
+    return
+  fi
   case $1 in
     binary_search) words 65536 20 | awk '{ print $1 * $1 }' ;;
     hash_table) words 65536 16 | awk '{ print $1 * 97 }' ;;

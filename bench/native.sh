@@ -1,9 +1,10 @@
 #!/usr/bin/env bash
-# Times the examples and loops without marks on 65,536 words: as native programs that `dswp build` makes, as plain C by gcc -O2
-# that traps where the language faults, by tcc, and under dswp's sequential machine; and the geometric means of the quotients.
-# Each time is the least of nine runs, less that of an empty program under the same runner. Ends with 1 where two answers differ.
+# Times the examples and loops without marks on 65,536 words: in native code that is proved, as plain C by gcc -O2 that traps
+# where the language faults, by tcc, and under dswp's sequential machine; and the geometric means of the quotients. Each time
+# is the least of nine runs, less that of an empty program under the same runner. The native code of all of them stands in one
+# program (native/together.py), which runs what `dswp build` makes of each. Ends with 1 where two answers differ.
 #
-#   bench/native.sh          all of them; each that isn't built yet takes some minutes first
+#   bench/native.sh          all of them; what isn't built yet takes some ten minutes for each ten programs first
 #   bench/native.sh NAME..   those that are named
 #
 # Needs gcc, tcc and python3.
@@ -12,9 +13,8 @@ set -euo pipefail
 need_dswp
 traps='-fsanitize=signed-integer-overflow,integer-divide-by-zero,bounds -fsanitize-undefined-trap-on-error'
 
-# Makes what each runner takes of a program without marks.
+# Makes what each runner but the native one takes of a program without marks.
 prepare() {
-  "$top/dswp" build "$work/$1.c" -o "$work/$1.native" 2>"$work/log" || { cat "$work/log"; return 1; }
   "$top/examples/as_c.sh" "$work/$1.c" | sed '/printf("region/d;/left_early) printf/d;s/printf("\\nend done/printf("end done/' >"$work/$1.plain.c"
   # shellcheck disable=SC2086
   gcc -w -O2 $traps -o "$work/$1.gcc" "$work/$1.plain.c"
@@ -23,11 +23,21 @@ prepare() {
 
 run() {
   case $1 in
-    native) "$work/$2.native" "$work/words" --fuel 1000000000 ;;
+    native) "$work/native" run "$work/$2.c" "$work/words" --fuel 1000000000 ;;
     machine) "$dswp" run "$work/$2.c" "$work/words" --fuel 1000000000 ;;
     *) "$work/$2.$1" <"$work/words" ;;
   esac
 }
+
+names=()
+for program in "$top"/examples/*.c "$top"/examples/gallery/*.c "$top"/bench/loops/*.c; do
+  name=$(basename "$program" .c)
+  grep -q 'break;' "$program" && continue   # an early exit stands in a marked loop alone
+  [ $# -eq 0 ] || [[ " $* " == *" $name "* ]] || continue
+  sed '/#pragma dswp/d' "$program" >"$work/$name.c"
+  names+=("$name")
+done
+(cd "$work" && python3 -B "$top/native/together.py" native "${names[@]/%/.c}")
 
 declare -A start
 printf 'int main() { }\n' >"$work/empty.c"
@@ -37,11 +47,7 @@ for runner in native gcc tcc machine; do start[$runner]=$(least run $runner empt
 
 machine
 printf '%-18s %10s %10s %10s %10s\n' milliseconds native 'gcc -O2' tcc machine
-for program in "$top"/examples/*.c "$top"/bench/loops/*.c; do
-  name=$(basename "$program" .c)
-  grep -q 'break;' "$program" && continue   # an early exit stands in a marked loop alone
-  [ $# -eq 0 ] || [[ " $* " == *" $name "* ]] || continue
-  sed '/#pragma dswp/d' "$program" >"$work/$name.c"
+for name in "${names[@]}"; do
   many_words "$name" >"$work/words"
   prepare "$name"
   line=$name

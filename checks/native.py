@@ -6,8 +6,10 @@ processor, and the `main` over all of them three more.
 
     native.py                   the examples and the loops of bench/loops, as they are and without marks
     native.py NAME..            those of them
-    native.py --apart NAME..    each built by `dswp build`, with a `main` of its own
-    native.py --random N SEED   so many random programs, as they are and without marks"""
+    native.py --random N SEED   so many random programs, as they are and without marks
+    native.py --large SITES     a program of at least so many sites
+    native.py --codes ..        proves the code of any of these, and compares nothing
+    native.py --apart NAME..    each built by `dswp build`, with a `main` of its own"""
 import random
 import re
 import subprocess
@@ -15,18 +17,15 @@ import sys
 import tempfile
 from pathlib import Path
 
+from large_text import large_text
 from random_runs import Text
 
 TOP = Path(__file__).resolve().parent.parent
 sys.dont_write_bytecode = True
 sys.path.insert(0, str(TOP / "native"))
-from builder import Builder
-from prover import Failed
-from together import codes_crate, main_crate
-from tree_text import Program
+from together import Together
 
 MOST_FUEL = 10**8
-TEN = 10  # so many programs have their code in one library
 
 
 def run(*words):
@@ -60,14 +59,12 @@ def both(texts):
     """Each text as it is, and without its marks."""
     for stem, text in texts:
         yield stem, text
-        if unmarked(text) is not None:
+        if "#pragma" in text and unmarked(text) is not None:
             yield stem + "_unmarked", unmarked(text)
 
 
 def long_input(stem):
     """65,536 words of the kind that a program is for."""
-    if (TOP / "examples" / "gallery" / (stem + ".c")).exists():
-        return run(sys.executable, TOP / "examples" / "gallery" / "inputs.py", stem, "long")[0]
     return run("bash", "-c", '. "$1/bench/common.sh"; many_words "$2"', TOP / "bench" / "native.sh", TOP, stem)[0]
 
 
@@ -78,7 +75,7 @@ def inputs(stem):
     yield "9223372036854775807 -9223372036854775808 0 1"
     yield " ".join(str(rng.randrange(-9, 100)) for _ in range(200))
     yield " ".join(str(rng.randrange(0, 1000)) for _ in range(65536))
-    if not stem.startswith("random"):
+    if not stem.startswith(("random", "large")):
         own = next(TOP.glob("examples/**/%s.in" % stem), None)
         yield from [own.read_text()] if own else []
         yield long_input(stem)
@@ -120,33 +117,20 @@ def built_apart(folder, sources):
         yield source, [program] if run(TOP / "dswp", "build", source, "-o", program)[1] == 0 else None
 
 
-def proved(builder, sources):
-    """Libraries of the code of these programs, which are proved, and what of them isn't."""
-    programs = [Program(run(TOP / "dswp", "tree", it)[0]) for it in sources]
-    crate = codes_crate(builder, programs)
-    try:
-        builder.make_libraries(crate.below())
-        builder.prover.make_library(crate)
-        return [crate], []
-    except Failed as failed:
-        if len(sources) == 1:
-            print("not proved: %s, see %s" % (sources[0].stem, builder.keep_log(failed)), flush=True)
-            return [], sources
-        halves = [proved(builder, half) for half in (sources[:len(sources) // 2], sources[len(sources) // 2:])]
-        return [it for crates, _ in halves for it in crates], [it for _, lost in halves for it in lost]
+def proved_together(sources):
+    """The libraries with these programs' code, those without marks apart from the others, as bench/native.sh takes them."""
+    together = Together()
+    for are_marked in (True, False):
+        together.prove([it for it in sources if it.stem.endswith("_unmarked") != are_marked])
+    return together
 
 
 def built_together(sources):
     """The same, of programs that have one `main`."""
-    builder, crates, lost = Builder(), [], []
-    for start in range(0, len(sources), TEN):
-        some, others = proved(builder, sources[start:start + TEN])
-        crates, lost = crates + some, lost + others
-    main = main_crate(builder, crates, "Codes")
-    builder.make_libraries([it for it in main.below() if it not in crates])
-    builder.prover.make_program(main)
+    together = proved_together(sources)
+    program = together.made()
     for source in sources:
-        yield source, None if source in lost else [builder.prover.program(main), "run", source]
+        yield source, None if source in together.lost else [program, "run", source]
 
 
 def compare(folder, built, are_together):
@@ -168,17 +152,32 @@ def compare(folder, built, are_together):
     return missing, wrong
 
 
+def written(folder, texts):
+    """The files of the texts, each as it is and without its marks."""
+    for stem, text in both(texts):
+        source = folder / (stem + ".c")
+        source.write_text(text)
+        yield source
+
+
+def named(words):
+    """The texts that the words name."""
+    if words[:1] == ["--random"]:
+        return random_texts(int(words[1]), words[2])
+    return [("large", large_text(int(words[1])))] if words[:1] == ["--large"] else examples(words)
+
+
 def main():
     words = sys.argv[1:]
-    apart = words[:1] == ["--apart"]
-    texts = random_texts(int(words[1]), words[2]) if words[:1] == ["--random"] else examples(words[apart:])
+    how = words.pop(0) if words[:1] in (["--codes"], ["--apart"]) else "--together"
     with tempfile.TemporaryDirectory() as name:
         folder = Path(name)
-        sources = []
-        for stem, text in both(texts):
-            sources.append(folder / (stem + ".c"))
-            sources[-1].write_text(text)
-        missing, wrong = compare(folder, built_apart(folder, sources) if apart else built_together(sources), not apart)
+        sources = list(written(folder, named(words)))
+        if how == "--codes":
+            missing = len(proved_together(sources).lost)
+            print("the code of %d of %d programs was proved at once" % (len(sources) - missing, len(sources)))
+            return 1 if missing else 0
+        missing, wrong = compare(folder, built_apart(folder, sources) if how == "--apart" else built_together(sources), how == "--together")
     print("".join("other answers: %s\n" % each for each in wrong), end="")
     print("%d of %d programs were built and proved at once, %d other answers" % (len(sources) - missing, len(sources), len(wrong)))
     return 1 if wrong or missing else 0
