@@ -1,6 +1,6 @@
 #!/usr/bin/env python3
-"""Times the loops of examples/, its gallery and loops/ with their marks, by their least plans, and without, on inputs of 65,536
-words, in turns: wall time and processor time an iteration, how many times as long the marked program takes, and the most memory of
+"""Times the loops of examples/, its gallery and loops/ with their marks, by their least plans, and without, on long inputs (65,536
+words for most), in turns: wall time and processor time an iteration, how many times as long the marked program takes, and the most memory of
 both. Each time is the least of nine runs, less that of an empty program.
 
     marks.py             all of them
@@ -39,11 +39,8 @@ def least(runs):
 
 
 def long_input(path):
-    """65,536 words of the kind that the program is for."""
-    if path.parent.name == "gallery":
-        words = [sys.executable, path.parent / "inputs.py", path.stem, "long"]
-    else:
-        words = ["bash", "-c", '. "$1/bench/common.sh"; many_words "$2"', TOP / "bench" / "marks.py", TOP, path.stem]
+    """Many words of the kind that the program is for."""
+    words = ["bash", "-c", '. "$0/bench/common.sh"; many_words "$1"', TOP, path.stem]
     return subprocess.run([str(word) for word in words], capture_output=True, check=True).stdout
 
 
