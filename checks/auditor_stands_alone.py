@@ -10,8 +10,8 @@ from pathlib import Path
 
 TOP = Path(__file__).resolve().parent.parent
 AUDITING = ("dp_auditor", "dp_view")
-PIPELINE = set("""dp_packet dp_machine dp_commit dp_pipeline dp_crew dp_turn dp_site_words dp_judge dp_finding dp_epoch dp_run
-    dp_relay dp_lane dp_ring dp_stop dp_waiting""".split())
+PIPELINE = set("""dp_lean dp_lean_code dp_columns dp_lean_turn dp_lean_judge dp_lean_epoch dp_lean_kinds dp_lean_region dp_lean_machine
+    dp_prepared dp_judge dp_commit dp_pipeline dp_crew dp_epoch dp_run dp_relay dp_lane dp_ring dp_stop dp_waiting""".split())
 
 
 def dependencies():

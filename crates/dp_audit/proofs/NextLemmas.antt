@@ -8,13 +8,13 @@ use Rattle.dp_tree.proofs.IterationLaws.{iterations_adjoin}
 use Rattle.dp_plan.specs.declared.Plan.{Plan}
 use Rattle.dp_semantics.specs.Recovery.{is_recovered}
 use Rattle.dp_semantics.specs.EpochKey.{EpochKey}
-use Rattle.dp_semantics.specs.EpochVerdicts.{Again, Commit, verdict_at}
+use Rattle.dp_semantics.specs.EpochVerdicts.{Again, Carried, Commit, verdict_at}
 use Rattle.dp_log.specs.Changes.{changes_of}
 use Rattle.dp_meaning.specs.declared.ends.IterEnd.TheVariants as iter_end
 use Rattle.dp_meaning.specs.MachineState.{MachineState, fuel_left}
 use Rattle.dp_commit.specs.CommittedState.{CommittedState, region_run, steps_of_first}
 use Rattle.dp_pipeline.specs.Coming.{Coming}
-use Rattle.dp_judge.specs.Stages.{Told}
+use Rattle.dp_net.specs.NetVerdicts.{SaysTheSame}
 use Rattle.dp_epoch.specs.Applied.{left_of}
 use Rattle.dp_epoch.specs.declared.ends.RegionEnd.TheVariants as region_end
 use Rattle.dp_epoch.specs.InEpoch.{InEpoch, IsUnclean}
@@ -36,7 +36,7 @@ module _ (p : Program) (plan : Plan) (input : List ℤ) (first : MachineState) w
   kept_taken r k = kept_next p plan input first r k r.ledger r.known None k.none_waits refl refl k.copy
 
   module _ (r : Runner) (k : IsKept p plan input first r) (now : Runner) (now_is : now ≡ record r { verdicts = None }) (old new : Coming) (u : UnderWay plan first r.ledger old) (key_is : new.key ≡ old.key) (given_is : new.given ≡ old.given + 1) where
-    pub judged : (clean : Told) → Commit clean.carried ≡ verdict_at old.key old.given → Judged p plan input first now new clean
+    pub judged : (clean : Carried) → SaysTheSame old.key (verdict_at old.key old.given) (Commit clean) → Judged p plan input first now new clean
     judged clean verdict = subst (λ (x : Runner). Judged p plan input first x new clean) (sym now_is) (record {
       kept = kept_taken r k;
       before = old.given;
@@ -45,7 +45,7 @@ module _ (p : Program) (plan : Plan) (input : List ℤ) (first : MachineState) w
         plan_is = ap (λ (x : EpochKey). x.plan) key_is ∙ u.plan_is;
         epoch = subst (λ (x : EpochKey). InEpoch x old.given first r.ledger.committed r.ledger.account) (sym key_is) u.epoch;
       };
-      verdict = verdict ∙ ap (λ (x : EpochKey). verdict_at x old.given) (sym key_is);
+      verdict = subst (λ (x : EpochKey). SaysTheSame x (verdict_at x old.given) (Commit clean)) (sym key_is) verdict;
     })
 
     pub unclean : (cause : Cause) → Again cause ≡ verdict_at old.key old.given → Unclean p plan input first now

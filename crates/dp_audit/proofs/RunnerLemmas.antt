@@ -1,5 +1,5 @@
 -- What is kept of a region between two iterations: at its start, where an epoch is to begin, and behind an iteration.
-use Rattle.std.proofs.Common.{◌≡◌, refl, sym, ap, ◌∙◌, subst, ℕ, ◌≤◌, List, [], ◌++◌, ℤ, pos, length, get_or, Option, None, arith, false, is_some}
+use Rattle.std.proofs.Common.{◌≡◌, refl, sym, ap, ◌∙◌, subst, ℕ, ◌≤◌, List, [], ◌++◌, ℤ, pos, length, get_or, Option, None, arith, false}
 use Rattle.std.specs.List.Sorted.{IsNonDecreasing}
 use Rattle.dp_tree.specs.declared.Program.{Program}
 use Rattle.dp_tree.specs.InMain.{StandsInMain}
@@ -68,7 +68,7 @@ module _ (p : Program) (plan : Plan) (input : List ℤ) (first : MachineState) w
     sound a = sound_here r.epochs.region.now.program r.epochs.region.now.plan r.epochs.input.now first r.ledger.committed r.ledger.account (to_begin a)
 
     -- the epoch that begins
-    pub begun : AtEpoch plan first r.ledger.committed r.ledger.account → (v : Coming) → v ≡ record { key = key_here r.epochs.region.now.program r.epochs.region.now.plan r.epochs.input.now r.ledger.committed; tells_stages = is_some r.ledger.account.views; given = 0 } → UnderWay plan first r.ledger v
+    pub begun : AtEpoch plan first r.ledger.committed r.ledger.account → (v : Coming) → v ≡ record { key = key_here r.epochs.region.now.program r.epochs.region.now.plan r.epochs.input.now r.ledger.committed; given = 0 } → UnderWay plan first r.ledger v
     begun a v is = subst (UnderWay plan first r.ledger) (sym is) (record {
       plan_is = k.own_plan;
       epoch = epoch_here (key_here r.epochs.region.now.program r.epochs.region.now.plan r.epochs.input.now r.ledger.committed) 0 first r.ledger.committed r.ledger.account

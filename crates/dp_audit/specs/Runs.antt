@@ -5,9 +5,9 @@ use Rattle.dp_tree.specs.declared.Program.{Program}
 use Rattle.dp_plan.specs.declared.Plan.{Plan}
 use Rattle.dp_plan.specs.Written.{has}
 use Rattle.dp_semantics.specs.Seen.{is_local_at}
-use Rattle.dp_semantics.specs.EpochVerdicts.{Commit, verdict_at}
+use Rattle.dp_semantics.specs.EpochVerdicts.{Carried, Commit, verdict_at}
 use Rattle.dp_meaning.specs.MachineState.{MachineState}
-use Rattle.dp_judge.specs.Stages.{Told}
+use Rattle.dp_net.specs.NetVerdicts.{SaysTheSame}
 use Rattle.dp_pipeline.specs.Coming.{Coming}
 use Rattle.dp_epoch.specs.declared.ledger.Ledger.{Ledger}
 use Rattle.dp_epoch.specs.InEpoch.{AtEpoch, InEpoch, IsUnclean}
@@ -46,13 +46,13 @@ pub record Stands (p : Program) (plan : Plan) (input : List ℤ) (first : Machin
   pub count : r.ledger.committed.count ≡ n
   pub epoch : InItsEpoch plan first r.ledger r.verdicts
 
--- The last of these verdicts was to commit the next iteration, with what is carried of it.
-pub record Judged (p : Program) (plan : Plan) (input : List ℤ) (first : MachineState) (r : Runner) (v : Coming) (clean : Told) : Type 0 where
+-- The last of these verdicts was to commit the next iteration, with this carried of it.
+pub record Judged (p : Program) (plan : Plan) (input : List ℤ) (first : MachineState) (r : Runner) (v : Coming) (clean : Carried) : Type 0 where
   pub kept : IsKept p plan input first r
   pub before : ℕ
   pub given : v.given ≡ before + 1
-  pub under_way : UnderWay plan first r.ledger (record { key = v.key; tells_stages = v.tells_stages; given = before })
-  pub verdict : Commit clean.carried ≡ verdict_at v.key before
+  pub under_way : UnderWay plan first r.ledger (record { key = v.key; given = before })
+  pub verdict : SaysTheSame v.key (verdict_at v.key before) (Commit clean)
 
 -- The next iteration is to be executed again.
 pub record Unclean (p : Program) (plan : Plan) (input : List ℤ) (first : MachineState) (r : Runner) : Type 0 where

@@ -1,5 +1,5 @@
 //! The epochs of a region, each polled on the calling thread.
-ghost use Rattle.std.specs.Prelude.{◌≡◌, ◌≤◌, is_some, IfOk};
+ghost use Rattle.std.specs.Prelude.{◌≡◌, ◌≤◌, IfOk};
 ghost use Rattle.dp_semantics.specs.EpochCauses.{IsSound};
 ghost use Rattle.dp_epoch.specs.InEpoch.{key_here};
 
@@ -26,7 +26,7 @@ impl<'s, 'q> Epochs<'s, 'q> {
         requires sound { IsSound (key_here self.old.region.now.program self.old.region.now.plan self.old.input.now ledger.now.committed) }
         requires fuel { ledger.now.committed.machine.fuel ≤ 1000000000 }
         ensures kept { self.new ≡ self.old }
-        ensures verdicts { IfOk result (λ verdicts. verdicts ≡ record { key = key_here self.old.region.now.program self.old.region.now.plan self.old.input.now ledger.now.committed; tells_stages = is_some ledger.now.account.views; given = 0 }) }
+        ensures verdicts { IfOk result (λ verdicts. verdicts ≡ record { key = key_here self.old.region.now.program self.old.region.now.plan self.old.input.now ledger.now.committed; given = 0 }) }
     {
         let Pipeline { units, verdicts } = pipeline_here(
             self.alloc,

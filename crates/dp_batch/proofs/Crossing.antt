@@ -3,18 +3,14 @@ use denote.Param.Send.{IsSync, sendable, recorded_sync}
 use denote.Ref.{NamedLft}
 use Rattle.std.proofs.Crossing as crossing
 use Rattle.dp_room.proofs.row.Row.TheSendSync as row
-use Rattle.dp_plan.proofs.Plan.TheSendSync as plan
-use Rattle.dp_code.proofs.StageProgram.TheSendSync as stage_program
-use Rattle.dp_turn.proofs.prepared.PreparedCode.TheSendSync as code
-use Rattle.dp_finding.proofs.court.Entry.TheSendSync as entry
-use Rattle.dp_crew.proofs.Crossing.{program_field_sync, program_sync}
+use Rattle.dp_pipeline.proofs.Crossing.{program_sync, tables_sync}
 use Rattle.dp_prepared.specs.contracts.region.PreparedRegion as Region
 use Rattle.dp_prepared.specs.contracts.region.PreparedRegion.TheInside as RegionInside
 use Rattle.dp_run.specs.contracts.prepared.PreparedProgram as Prepared
 use Rattle.dp_run.specs.contracts.prepared.PreparedProgram.TheInside as PreparedInside
 
 region_field_sync : (a : NamedLft) → IsSync (RegionInside.the_field a).row
-region_field_sync a = let p = program_sync in let q = program_field_sync in search (plan.the_sync, code.the_sync, stage_program.the_field_sync, entry.the_sync, row.the_sync, crossing.crosses, sendable) depth 60 fits 20000
+region_field_sync a = let t = tables_sync a in search (sendable) depth 60 fits 20000
 
 region_inside_sync : (a : NamedLft) → IsSync (RegionInside.the_row a)
 region_inside_sync a = recorded_sync (RegionInside.the_field a).row _ _ (RegionInside.the_type a).to_one (region_field_sync a)

@@ -1,5 +1,5 @@
 -- What the committed memory stands for.
-use Rattle.std.specs.Prelude.{◌≡◌, ◌⊎◌, ℕ, ◌+◌, ◌≤◌, if◌then◌else◌, true, false, List, All, ℤ, length, Option, Some, None}
+use Rattle.std.specs.Prelude.{◌≡◌, ◌⊎◌, ℕ, ◌+◌, ◌≤◌, if◌then◌else◌, true, false, List, [], All, ℤ, length, Option, Some, None}
 use Rattle.dp_tree.specs.Step.{Config}
 use Rattle.dp_tree.specs.Trace.{Run, prints}
 use Rattle.dp_tree.specs.Iteration.{stands_at_head, start, iteration, is_closing, memory_after}
@@ -11,7 +11,7 @@ use Rattle.dp_meaning.specs.declared.ends.IterEnd.TheVariants.{Next, Closed, Fau
 use Rattle.dp_meaning.specs.Continues.{Continues}
 use Rattle.dp_meaning.specs.MachineState.{MachineState, rest_of_run, part_of, next_part}
 use Rattle.dp_meaning.specs.IterationRun.{IterationRun}
-use Rattle.dp_meaning.specs.NextIteration.{NextIteration}
+use Rattle.dp_meaning.specs.NextIteration.{NextIteration, end_of}
 
 -- a machine with the committed memory, the region, and how many of its iterations were committed
 pub record CommittedState : Type 0 where
@@ -34,10 +34,16 @@ under_way_count (Some region) = 1
 abbrev pub CountsSteps : CommittedState → Type 0
 CountsSteps c = c.machine.spoiled ≡ false → c.count + under_way_count c.machine.current ≤ c.machine.steps
 
--- It carries the stores, prints and steps of the iteration that comes next, which ends within the fuel, and whether that closes.
+-- It carries what leads to the memory behind the iteration that comes next, which ends within the fuel, its prints and steps, and whether that closes.
 pub record CarriesNext (c : CommittedState) (v : Carried) : Type 0 where
   pub iteration_is : NextIteration c.region c.machine v.stores v.steps v.closing
   pub prints_are : v.prints ≡ prints (iteration (rest_of_run c.machine) c.region 0)
+
+-- The iteration was committed from what is carried of it: the machine stands where its steps lead.
+pub record Applied (v : Carried) (old new : CommittedState) : Type 0 where
+  pub turns : ℕ
+  pub call : IterationRun old.region turns old.machine new.machine [] v.prints (end_of v.closing)
+  pub rest : new ≡ record old { machine = new.machine; count = old.count + 1 }
 
 -- the count after a call that executes the current iteration
 abbrev pub count_after : ℕ → IterEnd → ℕ

@@ -6,7 +6,7 @@ ghost use Rattle.dp_meaning.specs.Moved.{Spoiled};
 ghost use Rattle.dp_meaning.specs.Watched.{WatchSpoiled, WatchedStep};
 ghost use Rattle.dp_meaning.specs.IterationRun.{IterationRun};
 ghost use Rattle.dp_meaning.specs.NextIteration.{end_of};
-ghost use Rattle.dp_commit.specs.CommittedState.{BrokeOff, CarriesNext, ClosesOnce, CountsSteps, Holds, IsOpen, RecoversFor, WhereEnded, count_after};
+ghost use Rattle.dp_commit.specs.CommittedState.{Applied, BrokeOff, CarriesNext, ClosesOnce, CommittedState, CountsSteps, Holds, IsOpen, RecoversFor, WhereEnded, count_after};
 
 use crate::tally::Tally;
 use crate::watch::Watch;
@@ -104,9 +104,9 @@ impl<'p> Committed<'p> {
     /// Commits the next iteration from the pipeline. It takes no memory.
     pub fn apply<W: Watch>(&mut self, clean: Clean, tally: &mut Tally<W>)
         requires open { IsOpen self.old }
-        requires next { CarriesNext self.old clean.carried }
+        requires next { CarriesNext self.old clean }
         requires tally { tally.old < 2 ^ 64 - 1 }
-        ensures call { (out : List ℤ) → IterationRun self.old.region clean.carried.steps self.old.machine self.new.machine out (out ++ clean.carried.prints) (end_of clean.carried.closing) }
+        ensures call { (out : List ℤ) → IterationRun self.old.region clean.steps self.old.machine self.new.machine out (out ++ clean.prints) (end_of clean.closing) }
         ensures rest { self.new ≡ record self.old { machine = self.new.machine; count = self.old.count + 1 } }
         ensures tally { tally.new ≡ tally.old + 1 }
         ensures holds { (first : MachineState) → ClosesOnce first self.old.region → Holds first self.old → Holds first self.new }
@@ -116,6 +116,16 @@ impl<'p> Committed<'p> {
         let made = self.machine.steps();
         self.count += 1;
         tally.raise(made);
+    }
+
+    /// Counts the verdict on an iteration that was made step by step in place of [`Committed::apply`].
+    pub fn confirm<W: Watch>(&self, clean: Clean, tally: &mut Tally<W>)
+        requires made { (old : CommittedState) × CarriesNext old clean × Applied clean old self.now }
+        requires tally { tally.old < 2 ^ 64 - 1 }
+        ensures { tally.new ≡ tally.old + 1 }
+    {
+        drop(clean);
+        tally.raise(self.machine.steps());
     }
 
     /// Executes the current iteration sequentially, at most `turns` steps of it, and appends what they print.

@@ -1,5 +1,5 @@
 -- What an epoch did, said of another beginning; and an epoch that stopped early.
-use Rattle.std.proofs.Common.{◌≡◌, ◌∙◌, refl, sym, subst, ℕ, ◌<◌, List, ℤ, Option, Result, Ok, Err, is_some}
+use Rattle.std.proofs.Common.{◌≡◌, ◌∙◌, refl, sym, subst, ℕ, ◌<◌, List, ℤ, Option, Result, Ok, Err}
 use Rattle.std.specs.Result.{IsErr, IsErrAnd}
 use Rattle.dp_tree.specs.declared.Program.{Program}
 use Rattle.dp_plan.specs.declared.Plan.{Plan}
@@ -10,7 +10,6 @@ use Rattle.dp_epoch.specs.declared.ends.EpochEnd.{EpochEnd}
 use Rattle.dp_edge.specs.declared.writing.WriteFail.{WriteFail}
 use Rattle.dp_edge.specs.declared.writing.WriteFail.TheVariants.{Write, NoMemory}
 use Rattle.dp_epoch.specs.declared.ledger.Ledger.{Ledger}
-use Rattle.dp_epoch.specs.Accounts.{TellsEnough}
 use Rattle.dp_epoch.proofs.EpochBegins.{epoch_here}
 use Rattle.dp_crew.specs.EpochRan.{EpochRan}
 use Rattle.dp_edge.specs.Writing.{FaultsAfter, WritesFront}
@@ -64,14 +63,11 @@ unbegun begun plan ledger (Err fail) faults told tally is = record {
 }
 
 -- These are the verdicts of the epoch that begins behind the ledger.
-module _ (p : Program) (plan : Plan) (input : List ℤ) (ledger : Ledger) (verdicts : Coming) (is : verdicts ≡ record { key = key_here p plan input ledger.committed; tells_stages = is_some ledger.account.views; given = 0 }) where
+module _ (p : Program) (plan : Plan) (input : List ℤ) (ledger : Ledger) (verdicts : Coming) (is : verdicts ≡ record { key = key_here p plan input ledger.committed; given = 0 }) where
   pub begins_here : (first : MachineState) → ToBegin p plan input first ledger.committed ledger.account → InEpoch verdicts.key verdicts.given first ledger.committed ledger.account
   begins_here first b =
       subst (λ (v : Coming). InEpoch v.key v.given first ledger.committed ledger.account) (sym is)
       (epoch_here (key_here p plan input ledger.committed) 0 first ledger.committed ledger.account (record { first = refl; base = refl; steps = refl; fuel = refl; none = refl }) b)
-
-  pub tells_here : TellsEnough verdicts.tells_stages ledger.account
-  tells_here = subst (λ (v : Coming). TellsEnough v.tells_stages ledger.account) (sym is) (λ some. some)
 
   pub ran_here : (r : Result (Ledger × EpochEnd) WriteFail) (faults faults_now : ℕ) (told tells : Option (List ℕ)) (tally tally_now : ℕ) →
       EpochRan (λ (first : MachineState). InEpoch verdicts.key verdicts.given first ledger.committed ledger.account) verdicts.key.plan ledger r faults faults_now told tells tally tally_now →

@@ -90,8 +90,9 @@ impl<'s, 'u, E, R: Wait + Clock + Sync, G: Gate> Crew<'s, 'u, E, R, G> {
         ensures { verdicts.new ≡ verdicts.old }
     {
         let alone = self.started();
-        for _ in alone..self.trays.len() {
-            self.hand_last(verdicts);
+        let last = self.trays.len().saturating_sub(1);
+        for done in alone..self.trays.len() {
+            self.hand_last(last.saturating_sub(done.saturating_sub(alone)), verdicts);
         }
     }
 
@@ -107,10 +108,9 @@ impl<'s, 'u, E, R: Wait + Clock + Sync, G: Gate> Crew<'s, 'u, E, R, G> {
 
     /// Hands the last unit over to the thread of its place. What lies in the tray still is of an epoch that is over, and is
     /// dropped.
-    fn hand_last(&self, verdicts: &mut LaneVerdicts<'u>)
+    fn hand_last(&self, place: usize, verdicts: &mut LaneVerdicts<'u>)
         ensures { verdicts.new ≡ verdicts.old }
     {
-        let place = verdicts.units().saturating_sub(1);
         let Some(tray) = self.trays.get(place) else {
             return;
         };

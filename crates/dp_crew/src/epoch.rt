@@ -1,7 +1,6 @@
 //! One epoch: verdicts are taken, and clean iterations are committed in order.
 ghost use Rattle.std.specs.Prelude.{◌≡◌, ◌<◌, ◌-◌, ◌^◌};
 ghost use Rattle.dp_meaning.specs.MachineState.{MachineState};
-ghost use Rattle.dp_epoch.specs.Accounts.{TellsEnough};
 ghost use Rattle.dp_epoch.specs.Applied.{HasRoom};
 ghost use Rattle.dp_crew.specs.EpochRan.{EpochRan};
 ghost use Rattle.dp_epoch.specs.InEpoch.{InEpoch};
@@ -28,7 +27,6 @@ pub(crate) fn run_epoch<'p, 'v, 'u, E, R: Wait + Clock + Sync, K: Sink, G: Gate,
 ) -> Result<(Ledger<'p, 'v>, EpochEnd), WriteFail>
     requires sink { K.faults sink.old < 2 ^ 64 - 1 }
     requires epoch { (first : MachineState) × InEpoch verdicts.old.key verdicts.old.given first ledger.committed ledger.account }
-    requires stages { TellsEnough verdicts.old.tells_stages ledger.account }
     requires room { HasRoom tally.old ledger.committed }
     ensures ran { EpochRan (λ first. InEpoch verdicts.old.key verdicts.old.given first ledger.entry.committed ledger.entry.account) verdicts.old.key.plan ledger.entry result (K.faults sink.old) (K.faults sink.new) (K.written sink.old) (K.written sink.new) tally.old tally.new }
     ensures key { verdicts.new.key ≡ verdicts.old.key }
@@ -36,7 +34,7 @@ pub(crate) fn run_epoch<'p, 'v, 'u, E, R: Wait + Clock + Sync, K: Sink, G: Gate,
     let rt = crew.rt();
     'verdicts: loop {
         crew.await_one(verdicts);
-        let taken = take(rt, verdicts, &mut ledger, tally)?;
+        let taken = take(alloc, rt, verdicts, &mut ledger, tally)?;
         flush_if_many(alloc, &mut ledger.waiting, sink)?;
         match taken {
             Taken::Committed => {}

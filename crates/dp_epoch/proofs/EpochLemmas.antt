@@ -2,7 +2,6 @@
 use Rattle.std.proofs.Common.{◌≡◌, ◌⊎◌, inl, inr, refl, sym, ap, ◌∙◌, subst, append_assoc, ℕ, ◌+◌, ◌<◌, ◌≤◌, Bool, true, false, ◌||◌, if◌then◌else◌, ◌-◌, List, [], ◌∷◌, ◌++◌, length, take, drop, Option, Some, None, is_some, slice_get, slice_range, ℤ, arith}
 use Rattle.std.proofs.lemmas.Bool.{cases_lt, both_ways}
 use Rattle.std.proofs.lemmas.List.{append-nil}
-use Rattle.std.specs.Option.{option_map}
 use Rattle.std.proofs.Math.Seq.{drop-length, drop-nil, take-nil}
 use Rattle.dp_base.specs.declared.Cause.{Cause}
 use Rattle.dp_base.specs.declared.RegionReport.{RegionReport}
@@ -14,8 +13,8 @@ use Rattle.dp_tree.specs.Trace.{Run, run_of, prints}
 use Rattle.dp_tree.specs.Iteration.{stands_at_head, places, start, stop_from, events_from, closes, is_closing, has_ended}
 use Rattle.dp_tree.specs.IterationLaws.{events_of_first}
 use Rattle.dp_semantics.specs.EpochKey.{EpochKey}
-use Rattle.dp_semantics.specs.EpochVerdicts.{Carried, Commit, Again, judgement_of, verdict_at}
-use Rattle.dp_semantics.specs.Judge.{Agreed, Clean}
+use Rattle.dp_semantics.specs.EpochVerdicts.{Carried, Commit, Again, verdict_at}
+use Rattle.dp_meaning.specs.declared.ends.IterEnd.TheVariants as iter_end
 use Rattle.dp_meaning.specs.MachineState.{MachineState, fuel_left, rest_of_run}
 use Rattle.dp_meaning.specs.IterationRun.{IterationRun}
 use Rattle.dp_meaning.specs.NextIteration.{end_of}
@@ -24,8 +23,9 @@ use Rattle.dp_commit.proofs.CountLemmas.{some_closed}
 use Rattle.dp_epoch.specs.declared.ends.RegionEnd.TheVariants as region_end
 use Rattle.dp_epoch.specs.Applied.{Applied, left_of}
 use Rattle.dp_epoch.specs.Prints.{prints_from, prints_of, to_come}
-use Rattle.dp_judge.specs.Stages.{Told, store_stages}
-use Rattle.dp_epoch.specs.Accounts.{Reports, after_clean, seen_clean}
+use Rattle.dp_net.specs.NetVerdicts.{SaysTheSame}
+use Rattle.dp_epoch.specs.Accounts.{CountsClean, Reports, after_clean}
+use Rattle.dp_epoch.specs.Remade.{Remade}
 use Rattle.dp_epoch.specs.Progress.{Progress, RegionDone, report_before}
 use Rattle.dp_epoch.specs.InEpoch.{InEpoch, IsUnclean}
 use Rattle.dp_epoch.proofs.Here.{rest_fuel}
@@ -70,14 +70,6 @@ some_left plan first c account g h = by (cases_lt 0 (left_of c))
         let not_yet = unended plan.region (rest_of_run c.machine) c.machine.config (ap (λ (x : Run). x.trace) same ∙ spent_trace c.machine.program c.machine.input c.machine.config) (ap (λ (x : Run). x.configs) same ∙ spent_configs c.machine.program c.machine.input c.machine.config) in
         absurd (both_ways (has_ended (rest_of_run c.machine) plan.region 0) not_yet (sym (ended_same plan first c account g) ∙ h))
 
--- what the stages see is kept, or isn't, as before
-map_some : {X Y : Type 0} (f : X → Y) (o : Option X) → is_some (option_map f o) ≡ is_some o
-map_some f None = refl
-map_some f (Some x) = refl
-
-pub still_seen : (clean : Told) (old new : Account) (n : ℕ) → new ≡ after_clean n clean old → is_some new.views ≡ is_some old.views
-still_seen clean old new n is = ap (λ (a : Account). is_some a.views) is ∙ map_some (seen_clean clean) old.views
-
 -- A committed iteration leaves less fuel.
 some_events : (region turns : ℕ) (old new : MachineState) (before after : List ℤ) (closing : Bool) → old.current ≡ None → (call : IterationRun region turns old new before after (end_of closing)) → 0 < length call.events
 some_events region turns old new before after true idle call = some_closed old.current call.events call.stops.closed
@@ -85,7 +77,7 @@ some_events region turns old new before after false idle call = call.stops.some 
 
 pub left_falls : (v : Carried) (old new : CommittedState) → IsOpen old → Applied v old new → left_of new < left_of old
 left_falls v old new o a =
-    let some = some_events old.region v.steps old.machine new.machine [] v.prints v.closing o.between a.call in
+    let some = some_events old.region a.turns old.machine new.machine [] v.prints v.closing o.between a.call in
     omega (arith, some, a.call.moved.run.fuel, rest_fuel old.machine, rest_fuel new.machine)
 
 module _ (key : EpochKey) (n : ℕ) (first : MachineState) (c : CommittedState) (account : Account) (e : InEpoch key n first c account) where
@@ -96,7 +88,7 @@ module _ (key : EpochKey) (n : ℕ) (first : MachineState) (c : CommittedState) 
   pub unclean_here : (why : Cause) → Again why ≡ verdict_at key n → IsUnclean key.plan first c account
   unclean_here why gives = record { progress = e.progress; again = unclean_case key n first c account e why gives }
 
-  module _ (v : Carried) (gives : Commit v ≡ verdict_at key n) where
+  module _ (v : Carried) (gives : SaysTheSame key (verdict_at key n) (Commit v)) where
     q : IsClean key n first c account e v
     q = clean_case key n first c account e v gives
 
@@ -111,22 +103,28 @@ module _ (key : EpochKey) (n : ℕ) (first : MachineState) (c : CommittedState) 
     commit_prints =
         let some : 0 < (rest_of_run c.machine).fuel = omega (arith, left_here, rest_fuel c.machine) in
         next_prints key.plan first c account e.progress some
-        ∙ ap (λ (xs : List ℤ). xs ++ prints_from key.plan first (c.count + 1)) (iteration_prints key.plan first c account e.progress ∙ sym (ap (λ (x : Carried). x.prints) q.carried_is))
+        ∙ ap (λ (xs : List ℤ). xs ++ prints_from key.plan first (c.count + 1)) (iteration_prints key.plan first c account e.progress ∙ sym q.alike.0)
 
     is_split : (waiting : List ℤ) → to_come key.plan first waiting c.count ≡ (waiting ++ v.prints) ++ prints_from key.plan first (c.count + 1)
     is_split waiting = ap (λ (xs : List ℤ). waiting ++ xs) commit_prints ∙ sym (append_assoc waiting v.prints (prints_from key.plan first (c.count + 1)))
 
     -- what waits then, with the iteration's prints behind it
     pub waits : (waiting after : List ℤ) → after ≡ waiting ++ v.prints → after ≡ waiting ++ prints_of key.plan first c.count
-    waits waiting after is = is ∙ ap (λ (xs : List ℤ). waiting ++ xs) (sym (iteration_prints key.plan first c account e.progress ∙ sym (ap (λ (x : Carried). x.prints) q.carried_is)))
+    waits waiting after is = is ∙ ap (λ (xs : List ℤ). waiting ++ xs) (sym (iteration_prints key.plan first c account e.progress ∙ sym q.alike.0))
 
     module _ (new : CommittedState) (a : Applied v c new) where
       new_count : new.count ≡ c.count + 1
       new_count = ap (λ (s : CommittedState). s.count) a.rest
 
+      made_next : v.closing ≡ false → Remade c new v.prints iter_end.Next
+      made_next open_yet =
+          let call = subst (λ (b : Bool). IterationRun c.region a.turns c.machine new.machine [] v.prints (end_of b)) open_yet a.call in
+          let some = call.stops.some e.progress.is_open.between in
+          record { turns = a.turns; some = omega (arith, some, call.within); call = call; rest = a.rest }
+
       none_behind : v.closing ≡ true → prints_from key.plan first (c.count + 1) ≡ []
       none_behind closing =
-          let all = begun_is key.plan first c account e.progress new.machine v.steps [] v.prints (subst (λ (b : Bool). IterationRun c.region v.steps c.machine new.machine [] v.prints (end_of b)) closing a.call) in
+          let all = begun_is key.plan first c account e.progress new.machine a.turns [] v.prints (subst (λ (b : Bool). IterationRun c.region a.turns c.machine new.machine [] v.prints (end_of b)) closing a.call) in
           ap (λ (k : ℕ). prints (drop (steps_of_first (region_run first) key.plan.region (c.count + 1)) (events_of_first (region_run first) key.plan.region k))) all
           ∙ ap prints (drop-length (events_of_first (region_run first) key.plan.region (c.count + 1)))
 
@@ -140,22 +138,22 @@ module _ (key : EpochKey) (n : ℕ) (first : MachineState) (c : CommittedState) 
         pub closes_ahead : v.closing ≡ true → to_come key.plan first waiting c.count ≡ after
         closes_ahead closing = ahead ∙ ap (λ (xs : List ℤ). after ++ xs) (none_behind closing) ∙ append-nil after
 
-      module _ (clean : Told) (same : v ≡ clean.carried) (more : Account) (told : more ≡ after_clean new.count clean account) where
-        more_is : more ≡ after_clean (c.count + 1) clean account
-        more_is = told ∙ ap (λ (m : ℕ). after_clean m clean account) new_count
+      module _ (more : Account) (counted : CountsClean c new account more) where
+        more_is : more ≡ after_clean (c.count + 1) counted.seen account
+        more_is = counted.account ∙ ap (λ (m : ℕ). after_clean m counted.seen account) new_count
 
         reported : Reports more (report_before key.plan first (c.count + 1))
-        reported = report_next key n first c account e v q clean more more_is
+        reported = report_next key n first c account e v q counted.seen more more_is
 
         pub epoch_closes : v.closing ≡ true → RegionDone key.plan first new more region_end.Closed
         epoch_closes closing =
             subst (λ (s : CommittedState). RegionDone key.plan first s more region_end.Closed) (sym a.rest)
-            (closed_done key.plan first c account e.progress new.machine v.steps [] v.prints (subst (λ (b : Bool). IterationRun c.region v.steps c.machine new.machine [] v.prints (end_of b)) closing a.call) more reported)
+            (closed_done key.plan first c account e.progress new.machine a.turns [] v.prints (subst (λ (b : Bool). IterationRun c.region a.turns c.machine new.machine [] v.prints (end_of b)) closing a.call) more reported)
 
-        -- where the stages of its stores are told, if what the stages see is kept
-        pub epoch_goes : (is_some account.views ≡ true → (agreed : Agreed) → judgement_of key n ≡ Clean agreed → clean.stages ≡ store_stages key.program key.plan agreed) → v.closing ≡ false → InEpoch key (n + 1) first new more
-        epoch_goes staged open_yet =
-            let call = subst (λ (b : Bool). IterationRun c.region v.steps c.machine new.machine [] v.prints (end_of b)) open_yet a.call in
+        pub epoch_goes : v.closing ≡ false → InEpoch key (n + 1) first new more
+        unfolding made_next
+        epoch_goes open_yet =
+            let made = made_next open_yet in
             subst (λ (s : CommittedState). InEpoch key (n + 1) first s more) (sym a.rest)
-            (epoch_on key n first c account e v q v.steps [] v.prints new.machine call open_yet more reported
-            (watching_on key n first c account e v q clean same staged (going key n first c account e v q v.steps [] v.prints new.machine call open_yet) more more_is))
+            (epoch_on key n first c account e v q a.turns [] v.prints new.machine made.call open_yet more reported
+            (watching_on key n first c account e v q new made (going key n first c account e v q a.turns [] v.prints new.machine made.call open_yet) more counted more_is))

@@ -1,5 +1,5 @@
 -- The verdict on the epoch's next iteration is the one on iteration `count` of the region's own run.
-use Rattle.std.proofs.Common.{◌≡◌, refl, sym, ap, ◌∙◌, ℕ, ◌-◌, Bool, true, false, not, List, length, ℤ, arith}
+use Rattle.std.proofs.Common.{◌≡◌, refl, sym, ap, ◌∙◌, subst, ℕ, ◌-◌, Bool, true, false, not, List, length, ℤ, arith}
 use Rattle.dp_base.specs.declared.Cause.{Cause as ReportedCause}
 use Rattle.dp_epoch.specs.declared.account.Account.{Account}
 use Rattle.dp_tree.specs.declared.Program.{Program}
@@ -8,13 +8,14 @@ use Rattle.dp_tree.specs.Iteration.{memory_after}
 use Rattle.dp_semantics.specs.Clean.{is_clean}
 use Rattle.dp_semantics.specs.Recovery.{epoch, is_recovered}
 use Rattle.dp_semantics.specs.Packets.{passed}
-use Rattle.dp_semantics.specs.Judge.{Judgement, Clean, Unclean, judge}
+use Rattle.dp_semantics.specs.Judge.{Agreed, Judgement, Clean, Unclean, judge}
 use Rattle.dp_semantics.specs.Verdict.{Judged, judgement_at, done_in}
 use Rattle.dp_semantics.specs.EpochKey.{EpochKey}
 use Rattle.dp_semantics.specs.EpochVerdicts.{Carried, carried, Commit, Again, judgement_in, judgement_of, verdict_by, verdict_at}
 use Rattle.dp_meaning.specs.MachineState.{MachineState, fuel_left}
 use Rattle.dp_commit.specs.CommittedState.{CommittedState, region_run, steps_of_first}
 use Rattle.dp_theorem.proofs.Central.{fuel_is}
+use Rattle.dp_net.specs.NetVerdicts.{SaysTheSame}
 use Rattle.dp_epoch.specs.InEpoch.{InEpoch}
 use Rattle.dp_epoch.specs.Progress.{Progress}
 use Rattle.dp_epoch.proofs.Here.{memory_is, steps_are, judged_here}
@@ -51,23 +52,22 @@ module _ (key : EpochKey) (n : ℕ) (first : MachineState) (c : CommittedState) 
   abbrev judged : Judged first.program key.plan first.input source began c.count k
   judged = judged_here key.plan first c account g
 
-  -- the verdict is to commit: the iteration is clean, and the source's own is carried
+  -- the verdict is to commit: the iteration is clean, and what is carried says the same as the source's own
   pub record IsClean (v : Carried) : Type 0 where
     pub clean : is_clean first.program key.plan source began c.count ≡ true
     pub judged_so : judgement_of key n ≡ Clean (done_in key.plan source c.count)
-    pub carried_is : v ≡ carried (done_in key.plan source c.count)
+    pub alike : SaysTheSame key (Commit (carried (done_in key.plan source c.count))) (Commit v)
 
-  clean_by : (v : Carried) (j : Judgement) → judgement_of key n ≡ j → Commit v ≡ verdict_by key n j → IsClean v
+  clean_by : (v : Carried) (j : Judgement) → judgement_of key n ≡ j → SaysTheSame key (verdict_by key n j) (Commit v) → IsClean v
   clean_by v (Clean agreed) is gives =
       let clean = judged.back agreed (sym judgement_is ∙ is) in
       let told = judgement_is ∙ (judged.sent clean).judged in
       let both : Clean agreed ≡ Clean (done_in key.plan source c.count) = sym is ∙ told in
       let same : agreed ≡ done_in key.plan source c.count = cc both in
-      let gives_so : v ≡ carried agreed = cc gives in
-      record { clean = clean; judged_so = told; carried_is = gives_so ∙ ap carried same }
-  clean_by v Unclean is gives = absurd (cc gives)
+      record { clean = clean; judged_so = told; alike = subst (λ (a : Agreed). SaysTheSame key (Commit (carried a)) (Commit v)) same gives }
+  clean_by v Unclean is gives = absurd gives
 
-  pub clean_case : (v : Carried) → Commit v ≡ verdict_at key n → IsClean v
+  pub clean_case : (v : Carried) → SaysTheSame key (verdict_at key n) (Commit v) → IsClean v
   clean_case v gives = clean_by v (judgement_of key n) refl gives
 
   -- the verdict is to execute it again: the iteration isn't clean

@@ -13,6 +13,7 @@ pub mod Ending
 pub mod Done
 pub mod Stopped
 pub mod Rehearing
+pub mod Retracing
 pub mod Printing
 pub mod Recovering
 pub mod Reexecuted

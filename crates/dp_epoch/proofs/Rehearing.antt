@@ -23,7 +23,7 @@ use Rattle.dp_epoch.specs.Progress.{Progress}
 use Rattle.dp_epoch.specs.Remade.{Remade, iteration_end}
 use Rattle.dp_epoch.proofs.Carrying.{iteration_same}
 use Rattle.dp_epoch.proofs.Done as done
-use Rattle.dp_epoch.proofs.SeenLemmas.{follows}
+use Rattle.dp_epoch.proofs.SeenLemmas.{loads}
 use Rattle.dp_epoch.proofs.Stopped as stopped
 
 no_events : (es : List Event) → length es ≡ 0 → es ≡ []
@@ -83,7 +83,7 @@ module _ (plan : Plan) (first : MachineState) (c : CommittedState) (account : Ac
       let comes : Comes c.machine new.machine.steps v.source s.call.events (rest_of_run new.machine).trace = record {
         trace = s.call.moved.run.trace;
         steps = sym s.call.moved.steps;
-        loads = subst (LoadsFrom v.source) (events_made end s) (follows plan first c account g v kept).loads;
+        loads = subst (LoadsFrom v.source) (events_made end s) (loads plan first c account g v kept);
       } in
       let got = hears new.machine.steps s.call.events (rest_of_run new.machine).trace comes (omega arith) in
       let size = got.1.steps in

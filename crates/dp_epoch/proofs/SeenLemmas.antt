@@ -1,51 +1,37 @@
 -- What the stages see where the next iteration begins, and the cause of one that is executed again.
-use Rattle.std.proofs.Common.{◌≡◌, ◌⊎◌, inl, inr, refl, sym, ap, ◌∙◌, subst, ℕ, suc, Bool, true, false, ◌&&◌, if◌then◌else◌, is_none, is_some, List, [], ◌∷◌, map, Option, Some, None}
+use Rattle.std.proofs.Common.{◌≡◌, ◌⊎◌, inl, inr, refl, sym, ap, ◌∙◌, subst, ℕ, suc, Bool, true, false, ◌&&◌, if◌then◌else◌, is_none, is_some, List, Option, Some, None}
 use Rattle.std.proofs.lemmas.Bool.{not-true}
+use Rattle.std.specs.Option.{option_map}
 use Rattle.dp_base.specs.declared.Cause.{Cause}
 use Rattle.dp_base.specs.declared.End.{End}
-use Rattle.dp_tree.specs.Event as event
 use Rattle.dp_tree.specs.declared.Program.{Program}
-use Rattle.dp_tree.specs.Eval.{Load}
-use Rattle.dp_tree.specs.Step.{Effect, Event}
+use Rattle.dp_tree.specs.Step.{Event}
 use Rattle.dp_tree.specs.Trace.{Run}
 use Rattle.dp_tree.specs.Iteration.{has_ended, is_closing, iteration}
 use Rattle.dp_plan.specs.declared.Plan.{Plan}
 use Rattle.dp_semantics.specs.Clean.{is_clean}
 use Rattle.dp_semantics.specs.Recovery.{epoch, is_recovered}
-use Rattle.dp_semantics.specs.Told.{stores_of}
-use Rattle.dp_semantics.specs.Verdict.{effect_in, site_in}
 use Rattle.dp_theorem.proofs.Fitting.{accepted}
 use Rattle.dp_meaning.specs.MachineState.{MachineState, fuel_left}
 use Rattle.dp_commit.specs.CommittedState.{CommittedState, region_run, steps_of_first}
-use Rattle.dp_judge.specs.Stages.{stages_by}
-use Rattle.dp_view.specs.Following.{Follows, KeptBefore, Tells, found_or_end, stages_of}
-use Rattle.dp_view.specs.Viewed.{Viewed, after_all, after_stores, anew, onward, settled}
+use Rattle.dp_view.specs.Following.{KeptBefore, Tells, found_or_end}
+use Rattle.dp_view.specs.Heard.{LoadsFrom}
+use Rattle.dp_view.specs.Viewed.{Viewed, after_all, anew, onward, settled}
 use Rattle.dp_view.proofs.FollowLemmas.{views_tell}
-use Rattle.dp_view.proofs.StoreLemmas.{views_follow}
+use Rattle.dp_view.proofs.LoadLemmas.{views_follow}
 use Rattle.dp_epoch.specs.declared.account.Account.{Account}
-use Rattle.dp_epoch.specs.Progress.{Progress, Watching, cause_of}
+use Rattle.dp_epoch.specs.Accounts.{HearsOn, seen_clean}
+use Rattle.dp_epoch.specs.Progress.{Progress, cause_of}
 use Rattle.dp_epoch.proofs.Here.{starts_here}
 
--- the stages that are told are those of the events' stores
-module _ (p : Program) (plan : Plan) where
-  one_more : (site : ℕ) (loads : List Load) (effect : Effect) (rest : List Event) → stages_by p plan (map site_in rest) (map effect_in rest) ≡ stages_of p plan rest →
-      stages_by p plan (site ∷ map site_in rest) (effect ∷ map effect_in rest) ≡ stages_of p plan (record { site = site; loads = loads; effect = effect } ∷ rest)
-  one_more site loads (event.Stored c z) rest e = ap (λ (xs : List ℕ). Rattle.dp_plan.specs.Access.stage_of p plan site ∷ xs) e
-  one_more site loads (event.Printed z) rest e = e
-  one_more site loads (event.Decided z) rest e = e
-  one_more site loads (event.Tried z) rest e = e
+-- Where nothing is kept of what the stages see, there is nothing to hear, and nothing to go on with.
+pub none_heard : (old new : MachineState) (views : Option Viewed) → is_some views ≡ false → HearsOn old new views views
+none_heard old new None e = tt
+none_heard old new (Some v) e = absurd (cc)
 
-  pub stages_same : (events : List Event) → stages_by p plan (map site_in events) (map effect_in events) ≡ stages_of p plan events
-  stages_same [] = refl
-  stages_same (e ∷ rest) = one_more e.site e.loads e.effect rest (stages_same rest)
-
--- Where causes aren't asked for, nothing is kept for them.
-pub unwatched : (plan : Plan) (first : MachineState) (c : CommittedState) (account : Account) → Progress plan first c account → account.why ≡ false → is_some account.views ≡ false
-unwatched plan first c account g unasked = by account.views g.views_are
-  where
-    by : (views : Option Viewed) → Watching plan first c.count account.why views → is_some views ≡ false
-    by None k = refl
-    by (Some v) k = let clash : true ≡ false = sym k.0 ∙ unasked in absurd (cc clash)
+pub none_seen : (views : Option Viewed) → is_some views ≡ false → views ≡ option_map seen_clean views
+none_seen None e = refl
+none_seen (Some v) e = absurd (cc)
 
 is_some_found : (o : Option Cause) (a b : End) → is_none o ≡ false → found_or_end o a ≡ found_or_end o b
 is_some_found (Some cause) a b e = refl
@@ -71,23 +57,23 @@ module _ (plan : Plan) (first : MachineState) (c : CommittedState) (account : Ac
   told : Tells first.program plan (region_run first) (epoch first.program plan (region_run first) c.count) c.count (after_all (iteration (region_run first) plan.region c.count) v)
   told = views_tell (accepted first.program plan g.start.fits) first.input (fuel_left first) first.config g.start.stands e i (steps_of_first (region_run first) plan.region c.count) (starts_here plan first c account g) v kept
 
-  pub follows : Follows first.program plan (region_run first) (epoch first.program plan (region_run first) c.count) c.count v
-  follows = views_follow (accepted first.program plan g.start.fits) first.input (fuel_left first) first.config g.start.stands e i (steps_of_first (region_run first) plan.region c.count) (starts_here plan first c account g) v kept
+  pub loads : LoadsFrom v.source (iteration (region_run first) plan.region c.count)
+  loads = views_follow (accepted first.program plan g.start.fits) first.input (fuel_left first) first.config g.start.stands e i (steps_of_first (region_run first) plan.region c.count) (starts_here plan first c account g) v kept
 
   found_as : (b : Bool) → has_ended run plan.region i ≡ true → is_clean p plan run e i ≡ b → is_none (after_all events v).found ≡ b
   found_as b ended clean = sym (ap (λ (t : Bool). t && is_none (after_all events v).found) ended) ∙ sym told.clean ∙ clean
 
-  -- Behind a clean iteration they see its stores.
+  -- Behind a clean iteration they go on in the same epoch.
   pub seen_next : is_clean first.program plan (region_run first) (epoch first.program plan (region_run first) c.count) c.count ≡ true → has_ended (region_run first) plan.region c.count ≡ true → is_closing (region_run first) plan.region c.count ≡ false →
-      KeptBefore first.program plan (region_run first) (epoch first.program plan (region_run first) (suc c.count)) (suc c.count)
-      (onward (settled (after_stores (stores_of (iteration (region_run first) plan.region c.count)) (stages_of first.program plan (iteration (region_run first) plan.region c.count)) v)))
-  seen_next clean ended going =
+      (w : Viewed) → w ≡ after_all (iteration (region_run first) plan.region c.count) v →
+      KeptBefore first.program plan (region_run first) (epoch first.program plan (region_run first) (suc c.count)) (suc c.count) (seen_clean w)
+  seen_next clean ended going w is =
       let none : is_none (after_all events v).found ≡ true = found_as true ended clean in
       let next : KeptBefore p plan run e (suc i) (onward (settled (after_all events v))) =
       subst (λ (b : Bool). KeptBefore p plan run (if b then e else suc i) (suc i) (if b then onward (settled (after_all events v)) else anew (settled (after_all events v)))) none (told.next ended going) in
       let same : epoch p plan run (suc i) ≡ e = ap (λ (b : Bool). if b then e else suc i) clean in
-      subst (λ (d : ℕ). KeptBefore p plan run d (suc i) (onward (settled (after_stores (stores_of events) (stages_of p plan events) v)))) (sym same)
-      (subst (KeptBefore p plan run e (suc i)) (sym (follows.stores clean)) next)
+      subst (λ (d : ℕ). KeptBefore p plan run d (suc i) (seen_clean w)) (sym same)
+      (subst (λ (x : Viewed). KeptBefore p plan run e (suc i) (seen_clean x)) (sym is) next)
 
   -- Behind one that is executed again they see what the source has.
   module _ (again : is_recovered first.program plan (region_run first) c.count ≡ true) (w : Viewed) (is : w ≡ after_all (iteration (region_run first) plan.region c.count) v) where

@@ -108,7 +108,7 @@ module _ (plan : Plan) (first : MachineState) (c : CommittedState) (account : Ac
         ∙ ap (λ (es : List Event). slice_range events 0 (0 + length es)) (last_open events yet_open)
         ∙ (let size : (0 + length events) - 0 ≡ length events = omega arith in ap (λ (n : ℕ). take n events) size ∙ take_all (length events) events (omega arith))
 
-    not_ended : has_ended run plan.region c.count ≡ false
+    pub not_ended : has_ended run plan.region c.count ≡ false
     not_ended =
         ended_same plan first c account g ∙ ap (λ (o : Option ℕ). is_some o || is_closing rest plan.region 0) none_next ∙ ap closes iteration_is ∙ yet_open
 

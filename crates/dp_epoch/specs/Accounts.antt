@@ -1,5 +1,5 @@
 -- What is told of a region while its iterations are counted, and what its stages see where causes are asked for.
-use Rattle.std.specs.Prelude.{◌≡◌, ℕ, ◌+◌, ◌<◌, if◌then◌else◌, Bool, true, false, List, [], ◌∷◌, ◌++◌, length, ℤ, Option, Some, None, is_some, nat_lt}
+use Rattle.std.specs.Prelude.{◌≡◌, ℕ, ◌+◌, ◌<◌, if◌then◌else◌, Bool, true, false, List, [], ◌∷◌, ◌++◌, length, ℤ, Option, Some, None, nat_lt}
 use Rattle.std.specs.Option.{option_map}
 use Rattle.dp_base.specs.declared.Cause.{Cause}
 use Rattle.dp_base.specs.declared.End.{End}
@@ -10,10 +10,10 @@ use Rattle.dp_tree.specs.declared.Program.{Program}
 use Rattle.dp_plan.specs.declared.Plan.{Plan}
 use Rattle.dp_semantics.specs.Reported.{report_of}
 use Rattle.dp_meaning.specs.MachineState.{MachineState}
-use Rattle.dp_judge.specs.Stages.{Told}
+use Rattle.dp_commit.specs.CommittedState.{CommittedState}
 use Rattle.dp_view.specs.Following.{found_or_end}
 use Rattle.dp_view.specs.Heard.{Hears}
-use Rattle.dp_view.specs.Viewed.{Viewed, after_stores, anew, begun, onward, settled}
+use Rattle.dp_view.specs.Viewed.{Viewed, anew, begun, onward, settled}
 use Rattle.dp_epoch.specs.declared.account.Account.{Account}
 use Rattle.dp_epoch.specs.declared.ends.RegionEnd.{RegionEnd}
 use Rattle.dp_epoch.specs.declared.ends.RegionEnd.TheVariants.{Closed, Fault, Fuel}
@@ -41,20 +41,16 @@ begun_account p plan cells why = record {
 }
 
 -- what the stages see where the iteration behind a clean one begins
-abbrev pub seen_clean : Told → Viewed → Viewed
-seen_clean clean v = onward (settled (after_stores clean.carried.stores clean.stages v))
+abbrev pub seen_clean : Viewed → Viewed
+seen_clean v = onward (settled v)
 
 -- .. and where a new epoch begins behind one that was executed again
 abbrev pub seen_again : Viewed → Viewed
 seen_again v = anew (settled v)
 
--- behind a clean iteration, with which n were begun
-abbrev pub after_clean : ℕ → Told → Account → Account
-after_clean n clean account = record { report = record account.report { iterations = n }; why = account.why; views = option_map (seen_clean clean) account.views }
-
--- where what the stages see is kept, the verdicts tell the stages of stores
-abbrev pub TellsEnough : Bool → Account → Type 0
-TellsEnough tells account = is_some account.views ≡ true → tells ≡ true
+-- behind a clean iteration, with which n were begun, and of which the stages saw this where it is kept
+abbrev pub after_clean : ℕ → Option Viewed → Account → Account
+after_clean n seen account = record { report = record account.report { iterations = n }; why = account.why; views = option_map seen_clean seen }
 
 -- how the run ends where the re-execution of an iteration ended so
 abbrev pub run_end : Option RegionEnd → End
@@ -95,3 +91,9 @@ HearsOn old new None None = Unit {0}
 HearsOn old new None (Some w) = ⊥
 HearsOn old new (Some v) None = ⊥
 HearsOn old new (Some v) (Some w) = Hears old new v w
+
+-- The clean iteration between these was counted, and the stages saw each of its steps where what they see is kept.
+pub record CountsClean (old new : CommittedState) (before after : Account) : Type 0 where
+  pub seen : Option Viewed
+  pub heard : HearsOn old.machine new.machine before.views seen
+  pub account : after ≡ after_clean new.count seen before

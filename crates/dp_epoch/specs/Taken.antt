@@ -1,5 +1,5 @@
 -- One verdict of an epoch, and what it led to.
-use Rattle.std.specs.Prelude.{◌≡◌, ℕ, ◌+◌, ◌<◌, ◌≤◌, List, [], ◌++◌, ℤ, is_some}
+use Rattle.std.specs.Prelude.{◌≡◌, ℕ, ◌+◌, ◌<◌, ◌≤◌, List, [], ◌++◌, ℤ}
 use Rattle.dp_plan.specs.declared.Plan.{Plan}
 use Rattle.dp_semantics.specs.EpochKey.{EpochKey}
 use Rattle.dp_meaning.specs.MachineState.{MachineState}
@@ -41,7 +41,6 @@ pub record Takes (key : EpochKey) (n : ℕ) (old new : Ledger) (taken : Taken) (
   pub kept : taken ≡ Unclean → (new ≡ old) × (tally_now ≡ tally)
   pub report : new.account.report ≡ record old.account.report { iterations = new.committed.count }
   pub why : new.account.why ≡ old.account.why
-  pub watched : is_some new.account.views ≡ is_some old.account.views
   pub counted : tally_now + old.committed.count ≡ tally + new.committed.count
   pub room : HasRoom tally_now new.committed
   pub left : left_of new.committed ≤ left_of old.committed

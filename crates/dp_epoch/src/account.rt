@@ -8,7 +8,6 @@ use crate::ends::RegionEnd;
 use crate::report::{LISTED, count_recovered, nothing_counted};
 use crate::seeing::{cause_of, views_for};
 use dp_base::{Boxed, Cells, NoMemory, RegionReport};
-use dp_judge::Clean;
 use dp_plan::Plan;
 use dp_tree::Program;
 use dp_view::Views;
@@ -54,26 +53,23 @@ impl<'v> Account<'v> {
         report
     }
 
-    /// Whether the stages of the sites have to be told with a clean iteration's stores.
-    pub(crate) fn wants_stages(&self) -> bool
+    /// Whether what the stages see is kept.
+    pub(crate) fn is_watched(&self) -> bool
         ensures { result ≡ is_some self.now.views }
     {
         self.views.is_some()
     }
 
-    /// The stages see the stores of a clean iteration.
-    pub(crate) fn follow(&mut self, clean: &Clean) -> Result<(), NoMemory>
-        ensures ok { OnOk result (self.new ≡ record self.old { views = option_map (seen_clean clean.now) self.old.views }) }
-        ensures wanting { OnErr result (is_some self.old.views ≡ true) }
+    /// The iteration behind a clean one begins.
+    pub(crate) fn go_on(&mut self)
+        ensures { self.new ≡ record self.old { views = option_map seen_clean self.old.views } }
     {
         match &mut self.views {
-            None => Ok(()),
+            None => {}
             Some(boxed) => {
                 let views = boxed.get_mut();
-                views.store_all(clean.stores(), clean.stages())?;
                 views.settle();
                 views.go_on();
-                Ok(())
             }
         }
     }

@@ -46,7 +46,10 @@ pub fn execute_again<W: Watch>(
 }
 
 /// Executes the current iteration to its end, and lets its prints wait.
-fn execute(alloc: Global, ledger: &mut Ledger<'_, '_>) -> Result<Option<RegionEnd>, NoMemory>
+pub(crate) fn execute(
+    alloc: Global,
+    ledger: &mut Ledger<'_, '_>,
+) -> Result<Option<RegionEnd>, NoMemory>
     requires next { next_part ledger.old.committed.machine ≡ Region ledger.old.committed.region }
     ensures ok { IfOk result (λ end. (printed : List ℤ) × Remade ledger.old.committed ledger.new.committed printed (iteration_end end) × (ledger.new.waiting ≡ ledger.old.waiting ++ printed)) }
     ensures account { OnOk result (ledger.new.account ≡ record ledger.old.account { views = ledger.new.account.views }) }

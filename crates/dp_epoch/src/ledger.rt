@@ -1,19 +1,16 @@
 //! What is kept of a region between its iterations.
-ghost use Rattle.std.specs.Prelude.{◌≡◌, ◌⊎◌, ◌<◌, ◌+◌, ◌-◌, ◌^◌, ◌++◌, [], ℕ, List, ℤ, length, true, is_some, None, IfOk, OnErr, OnOk};
+ghost use Rattle.std.specs.Prelude.{◌≡◌, ◌<◌, ◌-◌, ◌^◌, ◌++◌, [], ℕ, List, ℤ, length, true, None, IfOk, OnErr, OnOk};
 ghost use Rattle.dp_meaning.specs.declared.ends.Part.TheVariants as part;
 ghost use Rattle.dp_meaning.specs.MachineState.{IsAnyRegion, next_part};
-ghost use Rattle.dp_commit.specs.CommittedState.{CarriesNext, IsOpen};
 ghost use Rattle.dp_prepared.specs.Planned.{IsPlanned};
-ghost use Rattle.dp_epoch.specs.Accounts.{CountsAgain, HearsOn, after_clean, begun_account};
-ghost use Rattle.dp_epoch.specs.Applied.{Applied};
+ghost use Rattle.dp_epoch.specs.Accounts.{CountsAgain, HearsOn, begun_account};
 ghost use Rattle.dp_epoch.specs.Remade.{Remade};
 
 use crate::account::Account;
 use crate::ends::RegionEnd;
 use crate::watching::watch_steps;
 use dp_base::{NoMemory, Row};
-use dp_commit::{Committed, Tally, Watch};
-use dp_judge::Clean;
+use dp_commit::Committed;
 use dp_meaning::{IterEnd, Machine};
 use dp_plan::Plan;
 use dp_tree::Program;
@@ -54,24 +51,6 @@ impl<'p, 'v> Ledger<'p, 'v> {
         })
     }
 
-    /// Commits a clean iteration, and lets its prints wait.
-    pub fn commit<W: Watch>(&mut self, clean: Clean, tally: &mut Tally<W>) -> Result<(), NoMemory>
-        requires open { IsOpen self.old.committed }
-        requires next { CarriesNext self.old.committed clean.carried }
-        requires tally { tally.old < 2 ^ 64 - 1 }
-        ensures ok { OnOk result (Applied clean.carried self.old.committed self.new.committed) }
-        ensures account { OnOk result (self.new.account ≡ after_clean self.new.committed.count clean self.old.account) }
-        ensures waiting { OnOk result (self.new.waiting ≡ self.old.waiting ++ clean.carried.prints) }
-        ensures tally { OnOk result (tally.new ≡ tally.old + 1) }
-        ensures wanting { OnErr result ((0 < length clean.carried.prints) ⊎ (is_some self.old.account.views ≡ true)) }
-    {
-        wait(&mut self.waiting, clean.prints())?;
-        self.account.follow(&clean)?;
-        self.committed.apply(clean, tally);
-        self.account.report.iterations = self.committed.count();
-        Ok(())
-    }
-
     /// Executes the current iteration sequentially, at most `turns` steps of it, and lets what they print wait. Where causes are
     /// still listed the stages see each step.
     pub fn recover(&mut self, alloc: Global, turns: u32) -> Result<IterEnd, NoMemory>
@@ -100,15 +79,4 @@ impl<'p, 'v> Ledger<'p, 'v> {
     {
         self.account.count_again(number, end)
     }
-}
-
-/// Lets more prints wait.
-fn wait(waiting: &mut Row<i64>, prints: &[i64]) -> Result<(), NoMemory>
-    ensures ok { OnOk result (waiting.new ≡ waiting.old ++ prints.now) }
-    ensures wanting { OnErr result (0 < length prints.now) }
-{
-    for print in prints {
-        waiting.push(*print)?;
-    }
-    Ok(())
 }

@@ -4,6 +4,7 @@
 
 mod account;
 mod again;
+mod committing;
 mod ends;
 mod ledger;
 mod making;

@@ -1,5 +1,5 @@
 //! The pipeline of the epoch that begins behind what is committed.
-ghost use Rattle.std.specs.Prelude.{◌≡◌, ◌≤◌, is_some, IfOk};
+ghost use Rattle.std.specs.Prelude.{◌≡◌, ◌≤◌, IfOk};
 ghost use Rattle.dp_semantics.specs.EpochCauses.{IsSound};
 ghost use Rattle.dp_epoch.specs.InEpoch.{key_here};
 
@@ -10,8 +10,7 @@ use dp_prepared::PreparedRegion;
 use dp_stop::StopSetter;
 use std::alloc::Global;
 
-/// Makes the pipeline of the epoch that begins behind what is committed. Its units look at the flag of the setter, and its
-/// verdicts tell the stages of stores where the ledger wants them.
+/// Makes the pipeline of the epoch that begins behind what is committed. Its units look at the flag of the setter.
 pub fn pipeline_here<'u, 'p>(
     alloc: Global,
     region: &'u PreparedRegion<'p>,
@@ -23,7 +22,7 @@ pub fn pipeline_here<'u, 'p>(
     requires sound { IsSound (key_here region.now.program region.now.plan input.now ledger.now.committed) }
     requires fuel { ledger.now.committed.machine.fuel ≤ 1000000000 }
     ensures setter { setter.new ≡ setter.old }
-    ensures verdicts { IfOk result (λ made. made.verdicts ≡ record { key = key_here region.now.program region.now.plan input.now ledger.now.committed; tells_stages = is_some ledger.now.account.views; given = 0 }) }
+    ensures verdicts { IfOk result (λ made. made.verdicts ≡ record { key = key_here region.now.program region.now.plan input.now ledger.now.committed; given = 0 }) }
 {
     let committed = &ledger.committed;
     let begin = Begin {
@@ -31,7 +30,6 @@ pub fn pipeline_here<'u, 'p>(
         base: committed.cells(),
         steps: committed.steps(),
         fuel: committed.fuel(),
-        tells_stages: ledger.account.wants_stages(),
     };
     Pipeline::new(alloc, region, input, begin, size, setter)
 }

@@ -1,7 +1,6 @@
 //! A verdict of an epoch is taken.
 ghost use Rattle.std.specs.Prelude.{◌≡◌, ◌+◌, IfOk};
 ghost use Rattle.dp_meaning.specs.MachineState.{MachineState};
-ghost use Rattle.dp_epoch.specs.Accounts.{TellsEnough};
 ghost use Rattle.dp_epoch.specs.Applied.{HasRoom};
 ghost use Rattle.dp_epoch.specs.InEpoch.{InEpoch};
 ghost use Rattle.dp_epoch.specs.Taken.{Takes};
@@ -11,6 +10,7 @@ use crate::verdicts::Verdicts;
 use dp_base::NoMemory;
 use dp_commit::{Tally, Watch};
 use dp_judge::Verdict;
+use std::alloc::Global;
 use std::sync::Wait;
 use std::time::Clock;
 
@@ -27,23 +27,22 @@ pub enum Taken {
 
 /// Takes the verdict on the epoch's next iteration, and commits the iteration where it is clean.
 pub fn take<R: Wait + Clock, V: Verdicts, W: Watch>(
+    alloc: Global,
     rt: &R,
     verdicts: &mut V,
     ledger: &mut Ledger<'_, '_>,
     tally: &mut Tally<W>,
 ) -> Result<Taken, NoMemory>
     requires epoch { (first : MachineState) × InEpoch (V.key verdicts.old) (V.given verdicts.old) first ledger.old.committed ledger.old.account }
-    requires stages { TellsEnough (V.tells_stages verdicts.old) ledger.old.account }
     requires room { HasRoom tally.old ledger.old.committed }
     ensures key { V.key verdicts.new ≡ V.key verdicts.old }
-    ensures tells { V.tells_stages verdicts.new ≡ V.tells_stages verdicts.old }
     ensures given { V.given verdicts.new ≡ V.given verdicts.old + 1 }
     ensures taken { IfOk result (λ taken. Takes (V.key verdicts.old) (V.given verdicts.old) ledger.old ledger.new taken tally.old tally.new) }
 {
     match verdicts.next(rt) {
         Verdict::Clean(clean) => {
             let closing = clean.closing();
-            ledger.commit(clean, tally)?;
+            ledger.commit(alloc, clean, tally)?;
             if closing {
                 return Ok(Taken::Closed);
             }

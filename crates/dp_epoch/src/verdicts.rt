@@ -1,8 +1,8 @@
 //! Where verdicts come from.
-ghost use Rattle.std.specs.Prelude.{◌≡◌, ◌+◌, ◌<◌, Bool, ℕ, true};
+ghost use Rattle.std.specs.Prelude.{◌≡◌, ◌+◌, ◌<◌, ℕ, true};
 ghost use Rattle.dp_semantics.specs.EpochKey.{EpochKey};
 ghost use Rattle.dp_semantics.specs.EpochVerdicts.{goes_on, verdict_at};
-ghost use Rattle.dp_judge.specs.Told.{Says, TellsStages};
+ghost use Rattle.dp_judge.specs.Told.{Says};
 
 use dp_judge::Verdict;
 use dp_pipeline::LaneVerdicts;
@@ -14,26 +14,19 @@ pub trait Verdicts {
     /// What the epoch depends on.
     ghost key: { Self → EpochKey };
 
-    /// Whether the stages of a clean iteration's stores are told.
-    ghost tells_stages: { Self → Bool };
-
     /// How many verdicts were given.
     ghost given: { Self → ℕ };
 
     /// The verdict on the next iteration. There is none after one that isn't Clean or that closes the region.
     fn next<R: Wait + Clock>(&mut self, rt: &R) -> Verdict
         requires { (n : ℕ) → n < given self.old → goes_on (verdict_at (key self.old) n) ≡ true }
-        ensures verdict { Says result (verdict_at (key self.old) (given self.old)) }
-        ensures stages { TellsStages (tells_stages self.old) (key self.old) (given self.old) result }
+        ensures verdict { Says (key self.old) result (verdict_at (key self.old) (given self.old)) }
         ensures key { key self.new ≡ key self.old }
-        ensures tells { tells_stages self.new ≡ tells_stages self.old }
         ensures given { given self.new ≡ given self.old + 1 };
 }
 
 impl<'u> Verdicts for LaneVerdicts<'u> {
     ghost key = { λ v. v.key };
-
-    ghost tells_stages = { λ v. v.tells_stages };
 
     ghost given = { λ v. v.given };
 

@@ -1,7 +1,5 @@
-pub mod Stages
-pub mod Locals
 pub mod Told
-pub mod Entries
+pub mod Decided
+pub mod Verdicts
 pub mod Judging
-pub mod Standing
 pub mod steps

@@ -1,117 +1,199 @@
-//! A site's word, judged where it stands.
-ghost use Rattle.std.specs.Prelude.{◌≡◌, ◌≢◌, ◌-◌, ◌<◌, ◌==◌, ◌||◌, ℤ, OnOk, ◌++◌, ◌∷◌, [], Some};
-ghost use Rattle.dp_plan.specs.Access.{first_site, stage_of};
-ghost use Rattle.dp_code.specs.FlatRun as run;
-ghost use Rattle.dp_finding.specs.declared.court.Answer.TheVariants as answer;
-ghost use Rattle.dp_finding.specs.FlatJudge.{one_stage_more};
-ghost use Rattle.dp_finding.specs.Held.{IsAt, state_at};
-ghost use Rattle.dp_judge.specs.Judging.{Does, Lets};
-ghost use Rattle.dp_finding.specs.Finding.{Finds, walking_in};
+//! The judging of the iterations of a batch, one after the other.
+ghost use Rattle.std.specs.Prelude.{◌≡◌, ◌<◌, ◌≤◌, ℕ};
+ghost use Rattle.dp_lean_judge.specs.Ready.{AllKept};
+ghost use Rattle.dp_lean_judge.specs.Collecting.{undone};
+ghost use Rattle.dp_lean_region.specs.LeanEpoch.{LeanEpoch};
+ghost use Rattle.dp_judge.specs.Decided.{cleans};
+ghost use Rattle.dp_judge.specs.steps.Adding.{IsUngiven};
+ghost use Rattle.dp_judge.specs.steps.Within.{CameIn, CameTo, Comes, JudgesBy, Within};
+ghost use Rattle.dp_judge.specs.steps.Deciding.{CommitsSo, SeesAs, going_by};
+ghost use Rattle.dp_judge.specs.declared.judging.Decision.TheVariants as decision;
 
-use crate::assuming::{closes, zero};
-use dp_base::{CellId, NoMemory, Row, SiteId, StoreOf, Word};
-use dp_finding::{Answer, Court, Pace, Walk, word_at};
+use crate::fuel::left_behind;
+use crate::told::ToldBatch;
+use dp_base::{CellId, Cells};
+use dp_columns::Reader;
+use dp_lean_judge::{Collected, LeanJudged, clear, lean_judge};
+use dp_lean_machine::StageColumns;
+use dp_lean_region::JudgeTables;
+use dp_room::Row;
+use std::alloc::Global;
 
-/// The store that a word tells.
-#[inline(always)]
-fn store_of(word: Word) -> StoreOf
-    ensures { result ≡ record { cell = record { 0 = word.index }; value = word.value } }
-{
-    StoreOf {
-        cell: CellId(word.index),
-        value: word.value,
+/// What is decided of an iteration, and whether another follows.
+#[derive(Clone, Copy)]
+pub(crate) enum Decision {
+    Goes,
+    /// It leaves the region.
+    Closes,
+    /// It is to be executed again.
+    Unclean,
+    NoMemory,
+}
+
+/// Where the judging stands, and what it works with.
+pub(crate) struct Bench {
+    /// How many steps are left of the fuel.
+    pub(crate) left: u64,
+    /// A memory before the next iteration: what the judging compares is right in it.
+    pub(crate) cells: Cells,
+    pub(crate) collected: Collected,
+}
+
+// By hand, so that a crate above doesn't prove again how all that it holds is dropped.
+impl Drop for Bench {
+    fn drop(self) {
+        let Bench {
+            left: _,
+            cells: _,
+            collected: _,
+        } = self;
     }
 }
 
-/// Appends a store, and the stage of its site where stages are told.
-#[inline(always)]
-fn note_store(
-    stores: &mut Row<StoreOf>,
-    stages: &mut Option<Row<u32>>,
-    store: StoreOf,
-    stage: u32,
-) -> Result<(), NoMemory>
-    ensures stores { OnOk result (stores.new ≡ stores.old ++ store ∷ []) }
-    ensures stages { OnOk result (stages.new ≡ one_stage_more stages.old stage) }
+/// Another iteration follows one that is clean, unless it leaves the region.
+fn going(closing: bool) -> Decision
+    ensures { result ≡ going_by closing }
 {
-    stores.push(store)?;
-    match stages {
-        Some(stages) => stages.push(stage),
-        None => Ok(()),
-    }
-}
-
-/// A store, whose word stands at a place of the pace's words.
-#[inline(always)]
-pub(crate) fn store_at<'c, 'p>(
-    walk: &mut Walk<'p>,
-    pace: &mut Pace<'p>,
-    court: Court<'c>,
-    at: usize,
-    next: usize,
-    site: SiteId,
-    opens: bool,
-    first: CellId,
-    count: u32,
-) -> Answer
-    requires at { IsAt pace.old walk.old }
-    requires first { court.first ≡ first_site court.program.now court.plan.now }
-    requires there { pace.old.stage ≡ stage_of court.program.now court.plan.now site.0 }
-    requires found { Finds court (state_at pace.old walk.old) pace.old.words.now site (Some at) }
-    requires left { pace.old.steps < court.limit }
-    requires opens { opens ≡ (site.0 == court.first) }
-    ensures does { Does (walking_in court.entry (state_at pace.old walk.old) (λ (z : ℤ). next) site (run.stored_by first.0 count)) (state_at pace.new walk.new) result }
-    ensures at { IsAt pace.new walk.new }
-{
-    let word = word_at(pace.words, at);
-    if word.index < first.0 || word.index - first.0 >= count {
-        return Answer::Refuses;
-    }
-    let store = store_of(word);
-    match note_store(&mut walk.stores, &mut walk.stages, store, pace.stage) {
-        Ok(()) => {
-            walk.cells.set(CellId(word.index), word.value);
-            pace.pass(at, closes(court, opens, site, word.value), next);
-            Answer::Goes
-        }
-        Err(_) => Answer::NoMemory,
-    }
-}
-
-/// A condition that isn't a break's, whose word stands at a place of the pace's words, where it is known which values are let go on.
-#[inline(always)]
-pub(crate) fn choose_at<'c, 'p>(
-    walk: &mut Walk<'p>,
-    pace: &mut Pace<'p>,
-    court: Court<'c>,
-    at: usize,
-    next: usize,
-    site: SiteId,
-    to: usize,
-    at_zero: bool,
-    elsewhere: bool,
-) -> Answer
-    requires at { IsAt pace.old walk.old }
-    requires first { court.first ≡ first_site court.program.now court.plan.now }
-    requires there { pace.old.stage ≡ stage_of court.program.now court.plan.now site.0 }
-    requires found { Finds court (state_at pace.old walk.old) pace.old.words.now site (Some at) }
-    requires left { pace.old.steps < court.limit }
-    requires lets { Lets court site at_zero elsewhere }
-    ensures does { Does (walking_in court.entry (state_at pace.old walk.old) (λ (z : ℤ). run.by_zero z to next) site run.decided_by) (state_at pace.new walk.new) result }
-    ensures asks_none { result ≢ answer.NoMemory }
-    ensures at { IsAt pace.new walk.new }
-{
-    let word = word_at(pace.words, at);
-    if zero(word.value) {
-        if !at_zero {
-            return Answer::Refuses;
-        }
-        pace.pass(at, site.0 == court.first, to);
+    if closing {
+        Decision::Closes
     } else {
-        if !elsewhere {
-            return Answer::Refuses;
-        }
-        pace.pass(at, false, next);
+        Decision::Goes
     }
-    Answer::Goes
+}
+
+impl Bench {
+    /// The judging where an epoch begins.
+    pub(crate) fn new(alloc: Global, base: Cells, left: u64) -> Bench
+        ensures left { result.left ≡ left }
+        ensures cells { result.cells ≡ base }
+    {
+        Bench {
+            left,
+            cells: base,
+            collected: Collected::new(alloc, false),
+        }
+    }
+
+    /// Nothing was done.
+    fn undo(&mut self)
+        ensures left { self.new.left ≡ self.old.left }
+        ensures cells { self.new.cells ≡ undone self.old.collected.before self.old.cells }
+    {
+        let Bench {
+            cells,
+            collected,
+            ..
+        } = self;
+        collected.undo(cells);
+    }
+
+    /// What the next iteration's judging comes to.
+    fn look<'c>(
+        &mut self,
+        ready: &dp_lean_judge::Ready,
+        readers: &mut Row<Reader<'c>>,
+    ) -> LeanJudged
+        requires { AllKept readers.old ready.now.entries }
+        ensures kept { AllKept readers.new ready.now.entries }
+        ensures left { self.new.left ≡ self.old.left }
+        ensures before { undone self.new.collected.before self.new.cells ≡ self.old.cells }
+        ensures judged { SeesAs ready.now self.old.cells readers.old result self.new.cells readers.new self.new.collected }
+    {
+        let Bench {
+            cells,
+            collected,
+            ..
+        } = self;
+        lean_judge(ready, cells, readers, collected)
+    }
+
+    /// The iteration is clean, and leaves this of the fuel.
+    fn commit(
+        &mut self,
+        locals: &[CellId],
+        after: u64,
+        closing: bool,
+        told: &mut ToldBatch,
+    ) -> Decision
+        requires less { after ≤ self.old.left }
+        requires ungiven { IsUngiven told.old }
+        ensures { CommitsSo locals.now after closing self.old self.new told.old told.new result }
+    {
+        let steps = self.left - after;
+        let stores = self.collected.stores.as_slice();
+        let prints = self.collected.prints.as_slice();
+        match told.add(stores, prints, steps, closing) {
+            Ok(()) => {
+                clear(locals, &mut self.cells);
+                self.left = after;
+                going(closing)
+            }
+            Err(_) => {
+                self.undo();
+                Decision::NoMemory
+            }
+        }
+    }
+
+    /// What is decided of the next iteration. Where it isn't clean the memory is again what it was before it.
+    fn decide<'c, 'p>(
+        &mut self,
+        tables: JudgeTables<'p>,
+        stages: &[StageColumns],
+        place: usize,
+        readers: &mut Row<Reader<'c>>,
+        told: &mut ToldBatch,
+    ) -> Decision
+        requires kept { AllKept readers.old tables.ready.now.entries }
+        requires ungiven { IsUngiven told.old }
+        ensures kept { AllKept readers.new tables.entry.ready.now.entries }
+        ensures ungiven { result ≡ decision.Goes → IsUngiven told.new }
+        ensures comes { (e : LeanEpoch) (b n : ℕ) → CameIn e b n stages.now → JudgesBy e tables.entry → place < n →
+            Within e b n place self.old.left self.old.cells readers.old (cleans told.old) →
+            Comes e b n place result self.new.left self.new.cells readers.new (cleans told.new) }
+    {
+        match self.look(tables.ready, readers) {
+            LeanJudged::Holds { closing } => match left_behind(self.left, stages, place) {
+                Some(after) => self.commit(tables.locals, after, closing, told),
+                None => {
+                    self.undo();
+                    Decision::Unclean
+                }
+            },
+            LeanJudged::Differs => {
+                self.undo();
+                Decision::Unclean
+            }
+            LeanJudged::NoMemory => {
+                self.undo();
+                Decision::NoMemory
+            }
+        }
+    }
+
+    /// What is decided of so many iterations, up to the first behind which none follows: that of the last one that was judged.
+    pub(crate) fn decide_all<'c, 'p>(
+        &mut self,
+        tables: JudgeTables<'p>,
+        stages: &[StageColumns],
+        iterations: usize,
+        readers: &mut Row<Reader<'c>>,
+        told: &mut ToldBatch,
+    ) -> Decision
+        requires kept { AllKept readers.old tables.ready.now.entries }
+        requires ungiven { IsUngiven told.old }
+        ensures comes { (e : LeanEpoch) (b : ℕ) → CameIn e b iterations stages.now → JudgesBy e tables.entry →
+            Within e b iterations 0 self.old.left self.old.cells readers.old (cleans told.old) →
+            CameTo e b iterations result self.new.left self.new.cells (cleans told.new) }
+    {
+        for place in 0..iterations {
+            match self.decide(tables, stages, place, readers, told) {
+                Decision::Goes => {}
+                Decision::Closes => return Decision::Closes,
+                Decision::Unclean => return Decision::Unclean,
+                Decision::NoMemory => return Decision::NoMemory,
+            }
+        }
+        Decision::Goes
+    }
 }

@@ -1,19 +1,15 @@
-//! The judgement on the packets of an epoch: whether an iteration is clean, and what a verdict carries of one that is.
+//! The judging of an epoch over batches of columns, and the verdicts on a batch, which are given one by one.
 #![tactic(auto)]
 
-mod assuming;
 mod clean;
-mod entries;
-mod finding;
-mod iteration;
+mod court;
+mod fuel;
 mod judging;
-mod locals;
-mod rounds;
-mod trying;
+mod parts;
+mod told;
 mod verdict;
-mod walking;
 
 pub use clean::Clean;
-pub use entries::make_entries;
-pub use trying::TryCommit;
+pub use court::LeanCourt;
+pub use told::ToldBatch;
 pub use verdict::Verdict;

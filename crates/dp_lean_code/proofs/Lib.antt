@@ -29,6 +29,8 @@ pub mod RunForms
 pub mod CountForms
 pub mod CountLists
 pub mod RunLists
+pub mod HidesRight
 pub mod RunsRight
 pub mod CountsRight
+pub mod HiddenMarks
 pub mod TablesMade

@@ -1,5 +1,5 @@
 -- What the code finds of quiet statements and their runs is what the definitions say.
-use Rattle.dp_semantics.proofs.Names.{◌≡◌, refl, sym, ap, ◌∙◌, ℕ, zero, suc, ◌+◌, ◌==◌, not, ◌&&◌, ◌||◌, if◌then◌else◌, Bool, true, false, List, [], ◌∷◌, ◌++◌, length, map, list_all, list_any, Option, Some, None, Stmt, Program, Plan, stage_of, first_site, region_accesses, first_cell, has_cell}
+use Rattle.dp_semantics.proofs.Names.{◌≡◌, refl, sym, ap, ◌∙◌, ℕ, ◌==◌, not, ◌&&◌, if◌then◌else◌, Bool, true, false, List, [], ◌∷◌, ◌++◌, length, map, list_all, list_any, Option, Some, None, Stmt, Program, Plan, stage_of, first_site, region_accesses, has_cell}
 use Rattle.dp_tree.specs.declared.Stmt.TheVariants as tree
 use Rattle.dp_tree.specs.Numbering.{numbers_from}
 use Rattle.dp_tree.specs.Statements.{everywhere}
@@ -8,9 +8,10 @@ use Rattle.dp_plan.specs.Access.{loaded_by}
 use Rattle.dp_semantics.specs.Fits.{stores_known}
 use Rattle.dp_net.specs.Quiet.{is_quiet_site, is_assumed_at, quiet_at, is_quiet}
 use Rattle.dp_net.specs.BlockText.{own_stage, is_quiet_own, run, joins_run, if_pays, block_from}
-use Rattle.dp_net.specs.Hidden.{home, is_private, is_hidden_by, is_hidden, gains, pays_off}
+use Rattle.dp_net.specs.Hidden.{is_hidden, gains, pays_off}
 use Rattle.dp_lean_code.specs.steps.Needs.{private_home}
-use Rattle.dp_lean_code.specs.steps.Runs.{is_home, joins, quiet_site, quiet_here, pays_in, count_in}
+use Rattle.dp_lean_code.proofs.HidesRight.{hides_is}
+use Rattle.dp_lean_code.specs.steps.Runs.{joins, quiet_site, quiet_here, pays_in, count_in}
 unfoldable use Rattle.dp_lean_code.specs.steps.Runs.{quiet_in, run_in, hides_from, gains_in}
 
 module _ (p : Program) (plan : Plan) (tabled : IsTabled p plan) where
@@ -37,28 +38,9 @@ module _ (p : Program) (plan : Plan) (tabled : IsTabled p plan) where
   run_is t (x ∷ xs) = ap (λ (c : Bool). if c then x ∷ run_in p plan t xs else []) (quiet_is t x) ∙ ap (λ (ys : List Stmt). if is_quiet p plan t x then x ∷ ys else []) (run_is t xs)
 
   module _ (homes : List (Option ℕ)) (homes_are : homes ≡ map (private_home p plan (region_accesses p plan)) (numbers_from 0 (length p.vars))) where
-    -- one variable
-    hides_one : (t c x : ℕ) → (is_home t (private_home p plan (region_accesses p plan) x) && (first_cell p (record { 0 = x }) == c)) ≡ is_hidden_by p plan t c x
-    hides_one t c x = by (is_private p plan x)
-      where
-        by : (private : Bool) → (is_home t (if private then Some (home p plan x) else None) && (first_cell p (record { 0 = x }) == c))
-            ≡ (private && ((home p plan x == t) && (first_cell p (record { 0 = x }) == c)))
-        by true = refl
-        by false = refl
-
-    hides_all : (t c k n : ℕ) → hides_from p plan t c k (map (private_home p plan (region_accesses p plan)) (numbers_from k n)) ≡ list_any (is_hidden_by p plan t c) (numbers_from k n)
-    unfolding hides_from
-    hides_all t c k zero = refl
-    hides_all t c k (suc n) =
-        ap (λ d. d || hides_from p plan t c (k + 1) (map (private_home p plan (region_accesses p plan)) (numbers_from (k + 1) n))) (hides_one t c k)
-        ∙ ap (λ d. is_hidden_by p plan t c k || d) (hides_all t c (k + 1) n)
-
-    hides_is : (t c : ℕ) → hides_from p plan t c 0 homes ≡ is_hidden p plan t c
-    hides_is t c = ap (hides_from p plan t c 0) homes_are ∙ hides_all t c 0 (length p.vars)
-
     gains_is : (t : ℕ) (x : Stmt) → gains_in p plan homes t x ≡ gains p (is_hidden p plan t) x
     unfolding gains_in
-    gains_is t x = λ i. gains p (λ c. hides_is t c i) x
+    gains_is t x = λ i. gains p (λ c. hides_is p plan homes homes_are t c i) x
 
     pays_is : (x : Stmt) (rest : List Stmt) → pays_in p plan homes (own_stage p plan x) (x ∷ rest) ≡ pays_off p plan (x ∷ rest)
     pays_is x rest = λ i. list_any (λ (y : Stmt). gains_is (own_stage p plan x) y i) (x ∷ rest)

@@ -60,10 +60,13 @@ module _ (p : Program) (plan : Plan) (inlined : IsInlined p) (fits : fits_plan p
   pub tables_made : (rows : List SiteAccess) (homes : List (Option ℕ)) (tables : LeanTables) → rows ≡ region_rows p plan.region →
       tables.done ≡ map (λ (s : ℕ). map (done_among p plan (accesses_in rows) s) (numbers_from 0 (length p.vars))) (numbers_from 1 (last plan)) →
       homes ≡ map (private_home p plan (accesses_in rows)) (numbers_from 0 (length p.vars)) →
-      tables.blocks ≡ flat_map (region_counts p plan homes) (region_statement p plan) → AreTablesOf p plan tables
-  tables_made rows homes tables rows_are done_is homes_are blocks_are =
+      tables.blocks ≡ flat_map (region_counts p plan homes) (region_statement p plan) → tables.homes ≡ homes → AreTablesOf p plan tables
+  tables_made rows homes tables rows_are done_is homes_are blocks_are kept =
       let all : accesses_in rows ≡ region_accesses p plan = ap accesses_in rows_are ∙ back_again (region_accesses p plan) in
+      let homes_right : homes ≡ map (private_home p plan (region_accesses p plan)) (numbers_from 0 (length p.vars)) =
+      homes_are ∙ ap (λ (found : List Access). map (private_home p plan found) (numbers_from 0 (length p.vars))) all in
       record {
-        blocks = blocks_are ∙ counts_are homes (homes_are ∙ ap (λ (found : List Access). map (private_home p plan found) (numbers_from 0 (length p.vars))) all);
+        blocks = blocks_are ∙ counts_are homes homes_right;
+        homes = kept ∙ homes_right;
         done = done_is ∙ ap (λ (found : List Access). map (λ (s : ℕ). map (done_among p plan found s) (numbers_from 0 (length p.vars))) (numbers_from 1 (last plan))) all;
       }

@@ -4,6 +4,7 @@
 mod access;
 mod blocks;
 mod close;
+mod hiding;
 mod kept;
 mod law;
 mod leaf;

@@ -144,10 +144,7 @@ impl<'a> Runs<'a> {
     fn is_at(self, place: usize, cell: CellId) -> bool
         ensures { result ≡ (first_cell self.entry.program.now (record { 0 = place }) == cell.0) }
     {
-        match self.program.vars.get(place) {
-            Some(info) => info.first.0 == cell.0,
-            None => cell.0 == 0,
-        }
+        first_at(self.program, place) == cell.0
     }
 
     /// The statement has an event that tells no store.
@@ -180,8 +177,18 @@ impl<'a> Runs<'a> {
     }
 }
 
+/// The first cell of the variable of this place.
+pub(crate) fn first_at(p: &Program, place: usize) -> u32
+    ensures { result ≡ first_cell p.now (record { 0 = place }) }
+{
+    match p.vars.get(place) {
+        Some(info) => info.first.0,
+        None => 0,
+    }
+}
+
 /// The variable's home is this stage.
-fn is_home(stage: u32, home: Option<u32>) -> bool
+pub(crate) fn is_home(stage: u32, home: Option<u32>) -> bool
     ensures { result ≡ spec.is_home stage home }
 {
     match home {

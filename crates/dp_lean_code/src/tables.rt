@@ -22,6 +22,8 @@ pub struct LeanTables {
     pub blocks: Row<u32>,
     /// By stage, from 1 to the judge's number, and by variable: whether a store to it is done.
     pub done: Row<Row<bool>>,
+    /// By variable: the home of a private one.
+    pub homes: Row<Option<u32>>,
 }
 
 impl LeanTables {
@@ -46,7 +48,11 @@ impl LeanTables {
             homes: homes.as_slice(),
         };
         let blocks = runs.blocks(alloc)?;
-        Ok(LeanTables { blocks, done })
+        Ok(LeanTables {
+            blocks,
+            done,
+            homes,
+        })
     }
 
     /// The number of the statements of the block that begins at the site with this place in the region, or 0.

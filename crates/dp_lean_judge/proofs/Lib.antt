@@ -15,3 +15,6 @@ pub mod HeadOps
 pub mod JudgeRunning
 pub mod JudgeRuns
 pub mod JudgeCodes
+pub mod LocalLemmas
+pub mod StageNumbers
+pub mod GivenStages

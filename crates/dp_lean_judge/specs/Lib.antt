@@ -1,3 +1,5 @@
+pub mod Locals
+pub mod Stages
 pub mod JudgeState
 pub mod JudgeFlat
 pub mod Laws

@@ -3,7 +3,7 @@
 ghost use Rattle.std.specs.Prelude.{◌≡◌, true};
 ghost use Rattle.dp_tree.specs.Inlined.{IsInlined};
 ghost use Rattle.dp_semantics.specs.Fits.{fits_plan};
-ghost use Rattle.dp_judge.specs.Judging.{HasStages};
+ghost use Rattle.dp_lean_judge.specs.Stages.{HasStages};
 ghost use Rattle.dp_lean_judge.specs.Laws.{JudgeCodeIsRight};
 
 use dp_plan::Plan;

@@ -6,6 +6,7 @@
 mod collected;
 mod judge;
 mod law;
+mod locals;
 mod making;
 mod reading;
 mod ready;
@@ -14,4 +15,5 @@ mod stepping;
 pub use collected::Collected;
 pub use judge::{LeanJudged, lean_judge};
 pub use law::judge_code_is_right;
+pub use locals::clear;
 pub use ready::{Entry, Ready, Seat};

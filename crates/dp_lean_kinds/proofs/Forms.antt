@@ -9,11 +9,11 @@ use Rattle.dp_plan.proofs.LoadLemmas.{opened}
 unfoldable use Rattle.dp_lean_kinds.specs.ColumnKinds.{formed_at}
 use Rattle.dp_lean_kinds.specs.declared.form.SiteForm.TheVariants as form
 
-pub formed-Assign : (site : SiteId) (x : VarId) (e : Expr) → formed_at (tree.Assign site x e) ≡ record { site = site; form = form.Scalar x } ∷ []
+pub formed-Assign : (site : SiteId) (x : VarId) (e : Expr) → formed_at (tree.Assign site x e) ≡ record { site = site; form = form.Stored x } ∷ []
 unfolding formed_at
 formed-Assign site x e = refl
 
-pub formed-Store : (site : SiteId) (x : VarId) (i e : Expr) → formed_at (tree.Store site x i e) ≡ record { site = site; form = form.Element } ∷ []
+pub formed-Store : (site : SiteId) (x : VarId) (i e : Expr) → formed_at (tree.Store site x i e) ≡ record { site = site; form = form.Stored x } ∷ []
 unfolding formed_at
 formed-Store site x i e = refl
 

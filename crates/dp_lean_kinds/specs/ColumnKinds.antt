@@ -4,7 +4,7 @@ use Rattle.std.specs.List.{list_any, flat_map}
 use Rattle.dp_tree.specs.declared.Stmt.{Stmt}
 use Rattle.dp_tree.specs.declared.Stmt.TheVariants.{Assign, Store, Print, If', While', Region', Break, Call}
 use Rattle.dp_tree.specs.declared.Program.{Program}
-use Rattle.dp_tree.specs.Eval.{first_cell}
+use Rattle.dp_tree.specs.Eval.{first_cell, cell_count}
 use Rattle.dp_tree.specs.Numbering.{numbers_from}
 use Rattle.dp_tree.specs.Statements.{asked}
 use Rattle.dp_plan.specs.declared.Plan.{Plan}
@@ -21,8 +21,8 @@ use Rattle.dp_lean_kinds.specs.declared.form.FormedSite.{FormedSite}
 
 -- the statement's own site, with the form of its values
 unfoldable pub formed_at : Stmt → List FormedSite
-formed_at (Assign site x e) = record { site = site; form = form.Scalar x } ∷ []
-formed_at (Store site x index e) = record { site = site; form = form.Element } ∷ []
+formed_at (Assign site x e) = record { site = site; form = form.Stored x } ∷ []
+formed_at (Store site x index e) = record { site = site; form = form.Stored x } ∷ []
 formed_at (Print site e) = record { site = site; form = form.Single } ∷ []
 formed_at (If' site cond _ then_part _ else_part) = record { site = site; form = form.Single } ∷ []
 formed_at (While' site cond _ body) = record { site = site; form = form.Single } ∷ []
@@ -35,10 +35,9 @@ module _ (p : Program) (plan : Plan) where
   abbrev pub formed_sites : List FormedSite
   formed_sites = flat_map (asked formed_at) (region_statement p plan)
 
-  -- values of this form: of stores to one cell, cells with values, or values alone
+  -- values of this form: values alone where a store is to the variable's one cell, or where nothing is stored, and else cells with values
   abbrev pub values_of : SiteForm → ColumnKind
-  values_of (form.Scalar x) = kind.Value (first_cell p x)
-  values_of form.Element = kind.Element
+  values_of (form.Stored x) = if cell_count p x == 1 then kind.Value (first_cell p x) else kind.Element
   values_of form.Single = kind.Value 0
 
   module _ (m : Marks) where

@@ -10,10 +10,8 @@ use dp_tree::Stmt;
 /// What a site tells each time.
 #[derive(Clone, Copy)]
 pub enum SiteForm {
-    /// A value that is stored to a scalar.
-    Scalar(VarId),
-    /// A value that is stored to an element.
-    Element,
+    /// A value that is stored to a cell of the variable.
+    Stored(VarId),
     /// A printed value, or a condition's.
     Single,
 }
@@ -40,8 +38,8 @@ impl Question<FormedSite> for Forms {
     #[tactic(auto, using(crate::proofs::Forms::formed_forms))]
     fn ask(&self, out: &mut Row<FormedSite>, statement: &Stmt) -> Result<(), NoMemory> {
         match statement {
-            Stmt::Assign { site, var, .. } => put(out, *site, SiteForm::Scalar(*var)),
-            Stmt::Store { site, .. } => put(out, *site, SiteForm::Element),
+            Stmt::Assign { site, var, .. } => put(out, *site, SiteForm::Stored(*var)),
+            Stmt::Store { site, var, .. } => put(out, *site, SiteForm::Stored(*var)),
             Stmt::Print { site, .. } => put(out, *site, SiteForm::Single),
             Stmt::If { site, .. } => put(out, *site, SiteForm::Single),
             Stmt::While { site, .. } => put(out, *site, SiteForm::Single),

@@ -13,7 +13,7 @@ ghost use Rattle.dp_lean_kinds.specs.steps.KindAmong as step;
 use crate::form::{FormedSite, Forms, SiteForm};
 use crate::reads::later_reads;
 use dp_base::{NoMemory, Row, SiteId};
-use dp_code::first_of;
+use dp_code::{first_of, length_of};
 use dp_columns::ColumnKind;
 use dp_lean_code::{LeanStage, LeanTables};
 use dp_plan::Plan;
@@ -44,10 +44,15 @@ impl<'a> Keeping<'a> {
         ensures { result ≡ spec.values_of self.entry.stage.program.now self.entry.stage.plan.now form }
     {
         match form {
-            SiteForm::Scalar(var) => ColumnKind::Value {
-                cell: first_of(self.stage.program, var).0,
-            },
-            SiteForm::Element => ColumnKind::Element,
+            SiteForm::Stored(var) => {
+                if length_of(self.stage.program, var) == 1 {
+                    ColumnKind::Value {
+                        cell: first_of(self.stage.program, var).0,
+                    }
+                } else {
+                    ColumnKind::Element
+                }
+            }
             SiteForm::Single => ColumnKind::Value { cell: 0 },
         }
     }

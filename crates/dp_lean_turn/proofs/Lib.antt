@@ -13,3 +13,8 @@ pub mod OwnBlocks
 pub mod Moving
 pub mod Following
 pub mod Evaluations
+pub mod ValueCode
+pub mod LeanOrder
+pub mod NotesMade
+pub mod CheckedPlaces
+pub mod BlockPlaces

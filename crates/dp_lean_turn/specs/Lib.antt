@@ -6,3 +6,5 @@ pub mod Standing
 pub mod Adding
 pub mod Doing
 pub mod Ending
+pub mod Made
+pub mod steps

@@ -72,6 +72,12 @@ pub standing_at : (p : Program) (xs : List Stmt) (r : ℕ) (cells : List ℤ) �
 standing_at p [] r cells e = absurd (cc)
 standing_at p (x ∷ xs) r cells e = (number_of (out-Stmt x) r e).1 p cells
 
+-- .. only what it is without the region's locals counts
+pub standing_alike : (p : Program) (xs : List Stmt) (r : ℕ) (left right : List ℤ) → part_of xs ≡ part.Region r → clear_locals r p.vars left ≡ clear_locals r p.vars right → standing p xs left ≡ standing p xs right
+standing_alike p [] r left right e same = absurd (cc)
+standing_alike p (x ∷ rest) r left right e same =
+    ap (λ (cells : List ℤ). record { to_do = x ∷ rest; cells = cells }) (standing_at p (x ∷ rest) r left e ∙ same ∙ sym (standing_at p (x ∷ rest) r right e))
+
 -- a region's locals stay cleared
 pub cleared_still : (p : Program) (xs : List Stmt) (r : ℕ) (c : Config) (cells : List ℤ) → part_of xs ≡ part.Region r → c ≡ standing p xs cells → clear_locals r p.vars c.cells ≡ c.cells
 cleared_still p xs r c cells e is =

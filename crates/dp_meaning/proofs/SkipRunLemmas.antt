@@ -6,7 +6,7 @@ use Rattle.dp_meaning.proofs.FollowedLemmas.{left_behind}
 use Rattle.dp_meaning.proofs.NextLemmas.{on_region, run_begins, next_events, last_front, last_iteration, open_iteration}
 use Rattle.dp_meaning.proofs.QuietLemmas.{never_again}
 use Rattle.dp_meaning.proofs.ShapeLemmas.{not_plain, at_end}
-use Rattle.dp_meaning.proofs.SkipLemmas.{after_events, stores_are_changes, cleared_still, leaving_at}
+use Rattle.dp_meaning.proofs.SkipLemmas.{after_events, stores_are_changes, cleared_still, leaving_at, standing_alike}
 use Rattle.dp_meaning.proofs.StopLemmas.{part_idle, from_region-over}
 use Rattle.dp_meaning.proofs.StretchLemmas.{IsPlain}
 use Rattle.dp_meaning.proofs.StretchEnds.{at_head, stops}
@@ -109,17 +109,21 @@ module _ (region : ℕ) (m : MachineState) (made : List StoreOf) (steps : ℕ) (
   size : steps ≡ length whole.run.events
   size = next.steps_are ∙ ap length found.is
 
-  cells_are : with_stores made m.config.cells ≡ after_events whole.run.events m.config.cells
-  cells_are = ap (λ (list : List StoreOf). with_stores list m.config.cells) (next.stores_are ∙ ap stores_of found.is) ∙ stores_are_changes whole.run.events m.config.cells
+  cells_are : clear_locals region m.program.vars (with_stores made m.config.cells) ≡ clear_locals region m.program.vars (after_events whole.run.events m.config.cells)
+  cells_are =
+      next.stores_lead m.config.cells
+      ∙ ap (clear_locals region m.program.vars) (ap (λ (es : List Event). with_stores (stores_of es) m.config.cells) found.is ∙ stores_are_changes whole.run.events m.config.cells)
 
   -- it stands where the iteration ends
-  config_by : (b : Bool) (c : Config) (es : List Event) → c ≡ standing m.program c.to_do (memory_after region b m.program es m.config.cells) → with_stores made m.config.cells ≡ after_events es m.config.cells
+  config_by : (b : Bool) (c : Config) (es : List Event) → c ≡ standing m.program c.to_do (memory_after region b m.program es m.config.cells)
+      → clear_locals region m.program.vars (with_stores made m.config.cells) ≡ clear_locals region m.program.vars (after_events es m.config.cells)
       → LeavesBehind (end_of b) (from_region m.config.to_do) c.to_do → (b ≡ false → part_of c.to_do ≢ part.Plain) → c ≡ behind_it b
   config_by true c es memory same behind head =
       memory ∙ ap (λ (xs : List Stmt). standing m.program xs (clear_locals region m.program.vars (after_events es m.config.cells))) (behind ∙ sym (left_behind m.config.to_do))
-      ∙ ap (standing m.program (behind_region m.config.to_do)) (ap (clear_locals region m.program.vars) (sym same) ∙ sym (leaving_at m.program m.config.to_do region (with_stores made m.config.cells) here))
+      ∙ ap (standing m.program (behind_region m.config.to_do)) (sym same ∙ sym (leaving_at m.program m.config.to_do region (with_stores made m.config.cells) here))
   config_by false c es memory same behind head =
-      memory ∙ ap (λ (xs : List Stmt). standing m.program xs (after_events es m.config.cells)) (sym (from_region-over c.to_do (head refl)) ∙ behind ∙ over) ∙ ap (standing m.program m.config.to_do) (sym same)
+      memory ∙ ap (λ (xs : List Stmt). standing m.program xs (after_events es m.config.cells)) (sym (from_region-over c.to_do (head refl)) ∙ behind ∙ over)
+      ∙ standing_alike m.program m.config.to_do region (after_events es m.config.cells) (with_stores made m.config.cells) here (sym same)
 
   ended : (b : Bool) (old new : MachineState) (es : List Event) → StandsThen (end_of b) old new es → (new.current ≡ None) × (b ≡ false → part_of new.config.to_do ≢ part.Plain)
   ended true old new es h = (h.0, λ e. absurd (cc e))

@@ -1,19 +1,20 @@
 -- Where an epoch begins, its units stand at its first item.
 use Rattle.std.proofs.Common.{arith, ◌≡◌, ◌≤◌, ◌^◌, ℕ, zero, suc, ◌+◌, ◌-◌, false, List, [], ◌∷◌, ◌++◌, ℤ, length, replicate, Some, None, Result, IfOk, sym, ap, ◌∙◌, subst, refl}
-use Rattle.dp_tree.specs.declared.Program.{Program}
-use Rattle.dp_plan.specs.declared.Plan.{Plan}
 use Rattle.dp_plan.specs.Each.{Each}
-use Rattle.dp_semantics.specs.EpochKey.{epoch_of}
 use Rattle.dp_relay.specs.UnitsKey.{UnitsKey}
 use Rattle.dp_lane.specs.declared.rule.View.TheVariants.{Sender}
 use Rattle.dp_lane.specs.Ends.{End, new_end}
 use Rattle.dp_ring.specs.declared.view.Standing.{Standing}
 use Rattle.dp_ring.specs.declared.view.Phase.TheVariants.{Putting, Resting, Collecting}
 use Rattle.dp_ring.specs.Calls.{at_start}
-use Rattle.dp_machine.specs.declared.stage.StageMachine.{StageMachine}
-use Rattle.dp_machine.specs.Machine.{Stands}
-use Rattle.dp_judge.specs.declared.trying.TryCommit.{TryCommit}
-use Rattle.dp_judge.specs.Standing.{Judges}
+use Rattle.dp_lean_epoch.specs.Coming.{LeanStands}
+use Rattle.dp_lean_region.specs.LeanEpoch.{LeanEpoch, IsLeanEpoch, marks_in}
+use Rattle.dp_lean_machine.specs.declared.machine.LeanMachine.{LeanMachine}
+use Rattle.dp_lean_machine.specs.Standing.{Stands}
+use Rattle.dp_judge.specs.declared.court.LeanCourt.{LeanCourt}
+use Rattle.dp_judge.specs.Judging.{Judges}
+use Rattle.dp_pipeline.specs.declared.setting.Setting.{Setting}
+use Rattle.dp_pipeline.specs.steps.Setting.{IsSetting}
 use Rattle.dp_pipeline.specs.declared.keys.EpochKey.{EpochKey as Held}
 use Rattle.dp_pipeline.specs.declared.keys.LaneKey.{LaneKey}
 use Rattle.dp_pipeline.specs.declared.passage.Passage.{Passage}
@@ -23,25 +24,26 @@ use Rattle.dp_pipeline.specs.declared.source.Source.{Source}
 use Rattle.dp_pipeline.specs.declared.staged.Staged.{Staged}
 use Rattle.dp_pipeline.specs.declared.target.Target.{Target}
 use Rattle.dp_pipeline.specs.declared.tickets.Tickets.{Tickets}
-use Rattle.dp_pipeline.specs.Carried.{IsCarried, IsJudged, is_last_carried, is_last_judged}
+use Rattle.dp_pipeline.specs.Carried.{lean_of, IsCarried, IsJudged, is_last_carried, is_last_judged}
 use Rattle.dp_pipeline.specs.Keys.{key_of}
 use Rattle.dp_pipeline.specs.Staging.{RunsAt, JudgesAt}
 use Rattle.dp_pipeline.specs.Seats.{CollectsFrom, PutsTo, IsUnused, MayTake, HasTaken, seat_facts, taking_facts, giving_facts}
 use Rattle.dp_lane.specs.Views.{sent_by}
-use Rattle.dp_pipeline.specs.Standing.{Gives, Gets, SendsTo, IsReady, IsHolding, MayJudge, HasJudged, source_facts, target_facts, target_ended, sent_facts, ended_by}
+use Rattle.dp_pipeline.specs.Lanes.{SendsTo}
+use Rattle.dp_pipeline.specs.Standing.{Gives, Gets, IsReady, IsHolding, MayJudge, HasJudged, source_facts, target_facts, target_ended, sent_facts, ended_by}
 use Rattle.dp_relay.specs.Works.{HasSentAll}
 
--- a machine of the epoch's program, plan and input stands where the epoch begins
-pub stands_in : {E : Type 0} (made : Result StageMachine E) (p : Program) (plan : Plan) (input : List ℤ) (key : Held) → key.p.now ≡ p → key.plan.now ≡ plan → key.input.now ≡ input
-    → IfOk made (λ (m : StageMachine). Stands m (record { program = p; plan = plan; input = input; base = key.base }) 0) → IfOk made (λ (m : StageMachine). Stands m (epoch_of (key_of key).epoch) 0)
-stands_in made p plan input key program_is plan_is input_is w =
-    subst (λ (e : Program × Plan × List ℤ). IfOk made (λ (m : StageMachine). Stands m (record { program = e.0; plan = e.1; input = e.2; base = key.base }) 0)) (λ i. (sym program_is i, sym plan_is i, sym input_is i)) w
+-- a machine of the epoch's plan takes its first batch
+pub stage_begins : (x : Setting) (is : IsSetting x) (m : LeanMachine) (stage : ℕ) → stage ≤ length x.key.epoch.plan.now.stages
+    → ((e : LeanEpoch) → IsLeanEpoch e → e.key.plan ≡ x.key.epoch.plan.now → stage ≤ length x.key.epoch.plan.now.stages → LeanStands (marks_in e) e.key stage 0 x.key.epoch.base → Stands m e 0)
+    → Stands m (lean_of (key_of x.key.epoch)) 0
+stage_begins x is m stage within begins = begins (lean_of (key_of x.key.epoch)) is.lawful.lean refl within (is.lawful.begins.stages stage)
 
 -- the number of the stage before the judging's
-pub stages_before : (plan : Plan) (key : Held) (stage : ℕ) → key.plan.now ≡ plan → stage ≡ length plan.stages + 1 → stage - 1 ≡ length key.plan.now.stages
-stages_before plan key stage same is = let e : stage - 1 ≡ length plan.stages = omega (arith, is) in e ∙ ap (λ (x : Plan). length x.stages) (sym same)
+pub stages_before : (key : Held) (stage : ℕ) → stage ≡ length key.plan.now.stages + 1 → stage - 1 ≡ length key.plan.now.stages
+stages_before key stage is = omega (arith, is)
 
--- a unit that takes its packets in order begins with the first
+-- a unit that takes its batches in order begins with the first
 pub passage_begins : (stage : Staged) (source : Source) (target : Target) (key : UnitsKey) (s : ℕ) → RunsAt stage key s (Some 0)
     → Gives source key (s - 1) 0 → Gets target key s 0 → (source_facts source).count ≡ 0 → (target_facts target).count ≡ 0 → target_ended target ≡ false
     → HasSentAll IsReady IsHolding (λ (ends : Passage). source_facts ends.source) (λ (ends : Passage). target_facts ends.target) (λ (ends : Passage). target_ended ends.target)
@@ -115,16 +117,16 @@ pub sends_first : (lane : LaneKey) (to : End LaneKey) (capacity : ℕ) → to �
 sends_first lane to capacity new = record { lane = lane; ended = false; view_is = ap (λ (e : End LaneKey). e.view) new; epoch = refl; stage = refl }
 
 module _ (lane : LaneKey) (source : Source) (to : End LaneKey) (capacity : ℕ) where
-  pub judging_begins : (t : TryCommit) → Judges t (key_of lane.epoch).epoch 0 → t.tells_stages ≡ lane.epoch.tells_stages → lane.stage - 1 ≡ length lane.epoch.plan.now.stages
+  pub judging_begins : (t : LeanCourt) → Judges t (lean_of (key_of lane.epoch)) 0 → lane.stage - 1 ≡ length lane.epoch.plan.now.stages
       → Gives source (key_of lane.epoch) (lane.stage - 1) 0 → (source_facts source).count ≡ 0 → to ≡ new_end (Sender lane 0 false) capacity → lane.epoch.fuel ≤ 1000000000
       → HasSentAll MayJudge HasJudged (λ (ends : Judging). source_facts ends.source) (λ (ends : Judging). sent_facts ends.verdicts) (λ (ends : Judging). ended_by ends.verdicts.view)
       JudgesAt (λ (key : UnitsKey) (s k : ℕ) (x : Judged). IsJudged key k x) is_last_judged (record { court = t }) (record { source = source; verdicts = to }) false
-  judging_begins t judges tells before gives count new fuel = record {
+  judging_begins t judges before gives count new fuel = record {
     key = key_of lane.epoch;
     number = lane.stage;
     place = Some 0;
     free = record { at = 0; place_is = refl; from = gives; to = sends_first lane to capacity new };
-    stands_on = λ _. record { before = before; tells = tells; stands = judges; few = omega (arith, fuel) };
+    stands_on = λ _. record { before = before; stands = judges; few = fuel };
     mark = ap (λ (e : End LaneKey). ended_by e.view) new;
     counts = count ∙ sym (ap (λ (e : End LaneKey). sent_by e.view) new);
   }

@@ -1,4 +1,4 @@
--- What comes to a unit is the next packet of its epoch.
+-- What comes to a unit is the next batch of its epoch.
 use Rattle.std.proofs.Common.{◌≡◌, ℕ, ◌+◌, sym, ap, subst, refl}
 use Rattle.dp_relay.specs.UnitsKey.{UnitsKey}
 use Rattle.dp_lane.specs.declared.rule.View.{View}
@@ -9,7 +9,8 @@ use Rattle.dp_pipeline.specs.declared.carried.Carried.{Carried}
 use Rattle.dp_pipeline.specs.declared.judged.Judged.{Judged}
 use Rattle.dp_pipeline.specs.Carried.{IsCarried, IsJudged, is_last_carried, is_last_judged}
 use Rattle.dp_pipeline.specs.Keys.{key_of}
-use Rattle.dp_pipeline.specs.Standing.{TakesFrom, SendsTo, taken_by, ended_by}
+use Rattle.dp_pipeline.specs.Lanes.{TakesFrom, SendsTo}
+use Rattle.dp_pipeline.specs.Standing.{taken_by, ended_by}
 
 -- an item was taken from a lane
 pub lane_gave : (old new : View LaneKey) (x : Carried)
@@ -30,7 +31,7 @@ lane_counted Fresh new x takes = absurd takes
 lane_counted (Sender key sent ended) new x takes = absurd takes
 lane_counted Spent new x takes = absurd takes
 
--- a packet may be sent on a lane
+-- a batch may be sent on a lane
 pub may_send : (view : View LaneKey) (x : Carried) (key : UnitsKey) (s n : ℕ) → SendsTo view key s n → IsCarried key s n x
     → views.IsNext (λ (key : LaneKey) (k : ℕ) (y : Carried). IsCarried (key_of key.epoch) key.stage k y) view x
 may_send view x key s n at is =

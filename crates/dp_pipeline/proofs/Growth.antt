@@ -1,7 +1,7 @@
 -- How the batches of an epoch grow.
 use Rattle.std.proofs.Common.{arith, ◌≡◌, ◌≤◌, ℕ, zero, suc, ◌+◌, ◌-◌, ap, ◌∙◌}
 use Rattle.std.specs.Prelude.{min, max}
-use Rattle.std.proofs.Math.Nat.{le-min, le-max_left}
+use Rattle.std.proofs.Math.Nat.{le-min, le-max_left, min-le_left}
 use Rattle.dp_relay.specs.UnitsKey.{UnitsKey}
 use Rattle.dp_pipeline.specs.declared.carried.Carried.{Carried}
 use Rattle.dp_pipeline.specs.Carried.{IsCarried}
@@ -27,9 +27,18 @@ many_begin key (suc b) low =
 -- there are no more batches than iterations up to the fuel's number
 pub within_fuel : (key : UnitsKey) (s b : ℕ) (x : Carried) → IsCarried key s b x → b ≤ key.epoch.fuel
 within_fuel key s b x is =
-    let number = is.last.sent.iteration in let within = is.last.within in
+    let number = is.sent.first in let within = is.within in
     let low : key.epoch.first + begins key b ≤ key.epoch.fuel = omega (arith, number, within) in
     let least = many_begin key b low in omega (arith, least, low)
+
+fits : (cap first k fuel : ℕ) → first + k ≤ fuel → k + min (suc fuel - (first + k)) (max 1 (min cap k)) ≤ suc fuel
+fits cap first k fuel low = let least = min-le_left (suc fuel - (first + k)) (max 1 (min cap k)) in omega (arith, low, least)
+
+-- a batch's iterations aren't above the fuel's number
+pub ends_within : (key : UnitsKey) (s b : ℕ) (x : Carried) → IsCarried key s b x → begins key b + size key b ≤ suc key.epoch.fuel
+ends_within key s b x is =
+    let number = is.sent.first in let within = is.within in
+    fits key.cap key.epoch.first (begins key b) key.epoch.fuel (omega (arith, number, within))
 
 -- the size by what the start holds is that of the batch
 pub size_is : (key : UnitsKey) (first next fuel cap b : ℕ) → first ≡ key.epoch.first → next ≡ key.epoch.first + begins key b → fuel ≡ key.epoch.fuel → cap ≡ key.cap

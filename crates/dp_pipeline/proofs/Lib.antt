@@ -2,14 +2,15 @@ pub mod Beginning
 pub mod Coming
 pub mod Froms
 pub mod Growth
-pub mod Runs
 pub mod Passing
 pub mod Seated
 pub mod Settings
 pub mod Staging
 pub mod Supplied
-pub mod Telling
 pub mod Ticketed
 pub mod VerdictsCome
 pub mod UnitCounts
 pub mod rows
+pub mod Crossing
+pub mod Giving
+pub mod Telling

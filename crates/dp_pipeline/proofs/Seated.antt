@@ -1,4 +1,4 @@
--- What comes out of a ring is the next packet of its epoch, and what goes in is.
+-- What comes out of a ring is the next batch of its epoch, and what goes in is.
 use Rattle.std.proofs.Common.{arith, ◌≡◌, ◌<◌, inl, ℕ, ◌+◌, ◌-◌, ◌^◌, Option, IfSome, sym, ap, ◌∙◌, subst, refl}
 use Rattle.dp_relay.specs.UnitsKey.{UnitsKey}
 use Rattle.dp_ring.specs.declared.view.Standing.{Standing}
@@ -63,7 +63,7 @@ pub seat_waits : (word : ℕ) (old new : Standing LaneKey) → IsBusy word old n
 seat_waits word old new busy key s n at =
     (sits_on old new key s (ap (λ (v : View LaneKey). v.key) busy.1) at.0, ap (λ (v : View LaneKey). v.at) busy.1 ∙ at.1)
 
--- a packet may be put into the ring
+-- a batch may be put into the ring
 pub may_put : (seat : Standing LaneKey) (x : Carried) (key : UnitsKey) (s n : ℕ) → PutsTo seat key s n → IsCarried key s n x
     → IfSome seat.view.key (λ (k : LaneKey). IsCarried (key_of k.epoch) (k.stage - 1) seat.view.at x) × (seat.view.at < 2 ^ 62)
 may_put seat x key s n at is =

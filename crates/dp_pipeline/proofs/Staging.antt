@@ -1,131 +1,92 @@
 -- What a stage makes of a batch that came.
-use Rattle.std.proofs.Common.{◌≡◌, ◌≤◌, ◌<◌, ◌⊎◌, inl, inr, ℕ, ◌+◌, ◌-◌, ◌==◌, Bool, true, false, not, ◌||◌, List, Some, Ok, Err, sym, ap, ◌∙◌, subst, refl}
-use Rattle.dp_semantics.specs.Packets as packets
-use Rattle.dp_semantics.specs.EpochKey.{epoch_of}
+use Rattle.std.proofs.Common.{arith, ◌≡◌, ◌≤◌, ◌<◌, ℕ, suc, ◌+◌, ◌-◌, Bool, true, false, not, ◌&&◌, nat_le, length, Option, Some, None, IfOk, Result, sym, ap, ◌∙◌, subst, refl}
+use Rattle.dp_plan.specs.declared.Plan.{Plan}
+use Rattle.dp_plan.specs.Access.{is_replicated}
 use Rattle.dp_relay.specs.UnitsKey.{UnitsKey}
-use Rattle.dp_semantics.specs.Items.{OrWanting, packet_goes_on}
-use Rattle.dp_packet.specs.declared.Packet.{Packet}
-use Rattle.dp_packet.specs.declared.PacketStatus.{PacketStatus}
-use Rattle.dp_packet.specs.declared.PacketStatus.TheVariants.{Going, Closing, Void, NoMemory}
-use Rattle.dp_packet.specs.Packet.{packet_of, status_of, IsUnless}
-use Rattle.dp_turn.specs.declared.Frame.{Frame}
-use Rattle.dp_machine.specs.declared.Kept.{Kept}
-use Rattle.dp_machine.specs.declared.stage.StageMachine.{StageMachine}
-use Rattle.dp_machine.specs.Standing.{StandsAt, StandsNext}
-use Rattle.dp_machine.specs.Machine.{Stands}
-use Rattle.dp_machine.proofs.Epochs.{passed_run}
-use Rattle.dp_semantics.specs.StageRun.{TurnEnd, stage_run}
+use Rattle.dp_relay.specs.Places.{At, behind}
+use Rattle.dp_lean_region.specs.LeanEpoch.{LeanEpoch}
+use Rattle.dp_lean_machine.specs.declared.batch.BatchStatus.{BatchStatus}
+use Rattle.dp_lean_machine.specs.declared.batch.BatchStatus.TheVariants.{Going, Closing, Void, NoMemory}
+use Rattle.dp_lean_machine.specs.declared.machine.Kept.{Kept}
+use Rattle.dp_lean_machine.specs.declared.machine.Kept.TheVariants.{Cells, Versioned, Nothing}
+use Rattle.dp_lean_machine.specs.declared.machine.LeanMachine.{LeanMachine}
+use Rattle.dp_lean_machine.specs.Sent.{IsSent}
+use Rattle.dp_lean_machine.specs.Standing.{Keeps, Stands, Passes}
 use Rattle.dp_pipeline.specs.declared.carried.Carried.{Carried}
-use Rattle.dp_pipeline.specs.Carried.{IsPacket, is_last_carried, sent_packet}
-use Rattle.dp_pipeline.specs.steps.Ending.{ends_with, is_going_on}
-use Rattle.dp_pipeline.specs.steps.Makes.{Makes}
+use Rattle.dp_pipeline.specs.declared.staged.Staged.{Staged}
+use Rattle.dp_pipeline.specs.Carried.{lean_of, IsCarried, is_going_on, is_last_carried}
+use Rattle.dp_pipeline.specs.Staging.{StandsFor, RunsAt}
 
-pub twice_not : (b : Bool) → b ≡ not (not b)
-twice_not true = refl
-twice_not false = refl
+-- behind a batch that isn't the last, the epoch goes on
+pub not_last : (a b : Bool) → not (a && b) ≡ false → (a ≡ true) × (b ≡ true)
+not_last true true e = (refl, refl)
+not_last true false e = absurd (cc e)
+not_last false b e = absurd (cc e)
 
--- a packet that came is the one that is wanted, unless memory was wanting
-pub came_by : (status : PacketStatus) (p : Packet) (wanted : packets.Packet) → OrWanting wanted (sent_packet status p) → (status ≡ NoMemory) ⊎ (packet_of p ≡ wanted)
-came_by Going p wanted o = inr o
-came_by Closing p wanted o = inr o
-came_by (Void stage why) p wanted o = inr o
-came_by NoMemory p wanted o = inl refl
+pub going_is : (status : BatchStatus) → is_going_on status ≡ true → status ≡ Going
+going_is Going e = refl
+going_is Closing e = absurd (cc e)
+going_is Void e = absurd (cc e)
+going_is NoMemory e = absurd (cc e)
 
--- .. and so is one that is sent
-pub goes_by : (status : PacketStatus) (p : Packet) (wanted : packets.Packet) → IsUnless status (packet_of p) wanted → OrWanting wanted (sent_packet status p)
-goes_by Going p wanted u = u
-goes_by Closing p wanted u = u
-goes_by (Void stage why) p wanted u = u
-goes_by NoMemory p wanted u = tt
+-- no batch follows this one, with this fuel
+abbrev pub is_last_with : Carried → ℕ → Bool
+is_last_with x fuel = not (is_going_on x.batch.status && nat_le x.batch.iterations (fuel - x.batch.first))
 
--- the last packet is told by its status and its iteration
-last_by : (status : PacketStatus) (fuel : ℕ) (p : Packet) → p.status ≡ status
-    → ends_with fuel status p.iteration ≡ (not (packet_goes_on (sent_packet status p)) || (p.iteration == fuel))
-last_by Going fuel p is = subst (λ (st : PacketStatus). (p.iteration == fuel) ≡ (not (packet_goes_on (Some (record { lists = p.lists; status = status_of st; version = p.version }))) || (p.iteration == fuel))) (sym is) refl
-last_by Closing fuel p is = subst (λ (st : PacketStatus). true ≡ (not (packet_goes_on (Some (record { lists = p.lists; status = status_of st; version = p.version }))) || (p.iteration == fuel))) (sym is) refl
-last_by (Void stage why) fuel p is = subst (λ (st : PacketStatus). true ≡ (not (packet_goes_on (Some (record { lists = p.lists; status = status_of st; version = p.version }))) || (p.iteration == fuel))) (sym is) refl
-last_by NoMemory fuel p is = refl
+-- a replicated stage keeps the same before each batch
+keeps_anywhere : (e : LeanEpoch) (s : ℕ) (kept : Kept) (n k : ℕ) → is_replicated e.key.plan s ≡ true → Keeps e s n kept → Keeps e s k kept
+keeps_anywhere e s (Cells cells) n k par keeps = let clash : true ≡ false = sym par ∙ keeps.0 in absurd (cc clash)
+keeps_anywhere e s (Versioned both) n k par keeps = let clash : true ≡ false = sym par ∙ keeps.0 in absurd (cc clash)
+keeps_anywhere e s Nothing n k par keeps = par
 
-pub last_carried : (key : UnitsKey) (x : Carried) → ends_with key.epoch.fuel x.packets.last.status x.packets.last.iteration ≡ is_last_carried key x
-last_carried key x = last_by x.packets.last.status key.epoch.fuel x.packets.last refl
+stands_anywhere : (m : LeanMachine) (e : LeanEpoch) (b : ℕ) → is_replicated e.key.plan m.stage ≡ true → Stands m e b → (d : ℕ) → Stands m e d
+stands_anywhere m e b par stands d = record {
+  epoch = stands.epoch;
+  some = stands.some;
+  within = stands.within;
+  keeps = keeps_anywhere e m.stage m.kept _ _ par stands.keeps;
+}
 
--- behind a packet that isn't the last the epoch goes on
-pub going_by : (status : PacketStatus) (fuel i : ℕ) → ends_with fuel status i ≡ false → is_going_on status ≡ true
-going_by Going fuel i e = refl
-going_by Closing fuel i e = absurd (cc e)
-going_by (Void stage why) fuel i e = absurd (cc e)
-going_by NoMemory fuel i e = absurd (cc e)
-
--- behind a packet that goes on the machine stands at the next iteration
-stands_by : (status : PacketStatus) (f : Frame) (s : ℕ) (kept : Kept) (key : packets.Epoch) (n : ℕ) → StandsNext status f s kept key n
-    → is_going_on status ≡ true → StandsAt f s kept key (n + 1)
-stands_by Going f s kept key n w e = w
-stands_by Closing f s kept key n w e = absurd (cc e)
-stands_by (Void stage why) f s kept key n w e = absurd (cc e)
-stands_by NoMemory f s kept key n w e = absurd (cc e)
-
--- what a machine sends for what came, or for want of memory
-pub makes_one : (m new : StageMachine) (x y : Packet) (key : UnitsKey) (s n : ℕ) → m.stage ≡ s → Makes m new x y → Stands m (epoch_of key.epoch) n → IsPacket key (s - 1) n x
-    → IsPacket key s n y × (is_going_on y.status ≡ true → Stands new (epoch_of key.epoch) (n + 1))
-makes_one m new x y key s n is one stands came = by (came_by x.status x (packets.passed (epoch_of key.epoch) (s - 1) n).packet came.sent.packet)
-  where
-    whole : OrWanting (packets.passed (epoch_of key.epoch) s n).packet (sent_packet y.status y) → IsPacket key s n y
-    whole sent = record {
-      sent = record { iteration = one.number ∙ came.sent.iteration; packet = sent };
-      within = subst (λ (i : ℕ). i ≤ key.epoch.fuel) (sym one.number) came.within;
+-- it runs any batch
+pub runs_anywhere : (x : Staged) (key : UnitsKey) (s : ℕ) → is_replicated key.epoch.plan s ≡ true → RunsAt x key s (Some 0) → RunsAt x key s None
+runs_anywhere x key s par runs =
+    let replicated : is_replicated key.epoch.plan x.machine.stage ≡ true = ap (is_replicated key.epoch.plan) runs.stage ∙ par in record {
+      stage = runs.stage;
+      fuel = runs.fuel;
+      stands = (replicated, stands_anywhere x.machine (lean_of key) 0 replicated runs.stands);
     }
 
-    by : (x.status ≡ NoMemory) ⊎ (packet_of x ≡ (packets.passed (epoch_of key.epoch) (s - 1) n).packet)
-        → IsPacket key s n y × (is_going_on y.status ≡ true → Stands new (epoch_of key.epoch) (n + 1))
-    by (inl wanting) =
-        let st : y.status ≡ NoMemory = ap (λ (p : Packet). p.status) (one.wanting wanting) ∙ wanting in (
-          whole (subst (λ (t : PacketStatus). OrWanting (packets.passed (epoch_of key.epoch) s n).packet (sent_packet t y)) (sym st) tt),
-          λ e. let clash : false ≡ true = subst (λ (t : PacketStatus). is_going_on t ≡ true) st e in absurd (cc clash),
-        )
-    by (inr same) =
-        let passes = one.sends (epoch_of key.epoch) n stands (same ∙ ap (λ (t : ℕ). (packets.passed (epoch_of key.epoch) (t - 1) n).packet) (sym is)) in (
-          whole (goes_by y.status y (packets.passed (epoch_of key.epoch) s n).packet
-              (subst (λ (t : ℕ). IsUnless y.status (packet_of y) (packets.passed (epoch_of key.epoch) t n).packet) (one.stage ∙ is) passes.0)),
-          λ e. stands_by y.status new.frame new.stage new.kept (epoch_of key.epoch) n passes.1 e,
-        )
+stands_here : (m : LeanMachine) (key : UnitsKey) (place : Option ℕ) (b : ℕ) → StandsFor m key place → At place b → Stands m (lean_of key) b
+stands_here m key (Some c) b stands at = subst (Stands m (lean_of key)) (sym at) stands
+stands_here m key None b stands at = stands.1 b
 
--- a packet that a stage sends goes on only where the one that came did
-closing_stays : (key : packets.Epoch) (s : ℕ) (before : List _) (came : packets.Packet) (turn : TurnEnd) (st : packets.Status) → came.status ≡ st
-    → (packets.passed_on key s before came turn st).packet.status ≡ packets.Going → came.status ≡ packets.Going
-closing_stays key s before came turn packets.Going is e = is
-closing_stays key s before came (Ok end) packets.Closing is e = absurd (cc (sym (ap (λ (st : packets.Status). packets.status_of st end.closing) is) ∙ e))
-closing_stays key s before came (Err why) packets.Closing is e = absurd (cc e)
-closing_stays key s before came turn (packets.Broken t why) is e = e
+stands_behind : (m new : LeanMachine) (key : UnitsKey) (place : Option ℕ) (b : ℕ) → new.stage ≡ m.stage → StandsFor m key place → Stands new (lean_of key) (suc b)
+    → StandsFor new key (behind place b)
+stands_behind m new key (Some c) b same stands next = let one : suc b ≡ b + 1 = omega arith in subst (Stands new (lean_of key)) one next
+stands_behind m new key None b same stands next =
+    let par : is_replicated key.epoch.plan new.stage ≡ true = ap (is_replicated key.epoch.plan) same ∙ stands.0 in
+    (par, stands_anywhere new (lean_of key) (suc b) par next)
 
-sent_going : (key : packets.Epoch) (s n : ℕ) → 0 < s → (packets.passed key s n).packet.status ≡ packets.Going → (packets.passed key (s - 1) n).packet.status ≡ packets.Going
-sent_going key s n low e =
-    let came = (packets.passed key (s - 1) n).packet in
-    let before = (packets.passed key s n).before in
-    closing_stays key s before came (stage_run key.program key.plan key.input s before came.lists) came.status refl
-    (sym (ap (λ (q : packets.Passed). q.packet.status) (passed_run key s n low)) ∙ e)
+module _ (x new : Staged) (came sent : Carried) (key : UnitsKey) (s : ℕ) (place : Option ℕ) (b : ℕ) (runs : RunsAt x key s place) (at : At place b)
+    (is : IsCarried key (s - 1) b came) (stage : new.machine.stage ≡ x.machine.stage) (fuel : new.fuel ≡ x.fuel) where
+  -- the machine passes it on, wherever it stands
+  abbrev pub PassesOn : Type 0
+  PassesOn = (e : LeanEpoch) (c : ℕ) → Stands x.machine e c → IsSent e (x.machine.stage - 1) c came.batch → Passes new.machine e c sent.batch
 
-going_is : (status : PacketStatus) (p : Packet) (wanted : packets.Packet) → is_going_on status ≡ true → p.status ≡ status → OrWanting wanted (sent_packet status p) → wanted.status ≡ packets.Going
-going_is Going p wanted e is o = sym (ap (λ (q : packets.Packet). q.status) o) ∙ ap status_of is
-going_is Closing p wanted e is o = absurd (cc e)
-going_is (Void stage why) p wanted e is o = absurd (cc e)
-going_is NoMemory p wanted e is o = absurd (cc e)
+  passed : PassesOn → Passes new.machine (lean_of key) b sent.batch
+  passed step = step (lean_of key) b (stands_here x.machine key place b runs.stands at)
+      (subst (λ (t : ℕ). IsSent (lean_of key) (t - 1) b came.batch) (sym runs.stage) is.sent)
 
-is_going : (status : PacketStatus) → (status ≡ NoMemory → ⊥) → status_of status ≡ packets.Going → is_going_on status ≡ true
-is_going Going not_wanting e = refl
-is_going Closing not_wanting e = absurd (cc e)
-is_going (Void stage why) not_wanting e = absurd (cc e)
-is_going NoMemory not_wanting e = absurd (not_wanting refl)
+  pub batch_sent : PassesOn → IsCarried key s b sent
+  batch_sent step =
+      let sends = subst (λ (t : ℕ). IsSent (lean_of key) t b sent.batch) (stage ∙ runs.stage) (passed step).is in record {
+        sent = sends;
+        within = subst (λ (i : ℕ). i ≤ key.epoch.fuel) (is.sent.first ∙ sym sends.first) is.within;
+      }
 
-pub came_going : (m new : StageMachine) (x y : Packet) (key : UnitsKey) (s n : ℕ) → 0 < s → Makes m new x y → IsPacket key (s - 1) n x → IsPacket key s n y
-    → is_going_on y.status ≡ true → is_going_on x.status ≡ true
-came_going m new x y key s n low one came sent goes = by (came_by x.status x (packets.passed (epoch_of key.epoch) (s - 1) n).packet came.sent.packet)
-  where
-    not_wanting : x.status ≡ NoMemory → ⊥
-    not_wanting wanting =
-        let st : y.status ≡ NoMemory = ap (λ (p : Packet). p.status) (one.wanting wanting) ∙ wanting in
-        let clash : false ≡ true = subst (λ (t : PacketStatus). is_going_on t ≡ true) st goes in absurd (cc clash)
-
-    by : (x.status ≡ NoMemory) ⊎ (packet_of x ≡ (packets.passed (epoch_of key.epoch) (s - 1) n).packet) → is_going_on x.status ≡ true
-    by (inl wanting) = absurd (not_wanting wanting)
-    by (inr same) = is_going x.status not_wanting (ap (λ (p : packets.Packet). p.status) same
-        ∙ sent_going (epoch_of key.epoch) s n low (going_is y.status y (packets.passed (epoch_of key.epoch) s n).packet goes refl sent.sent.packet))
+  pub batch_next : PassesOn → is_last_carried key sent ≡ false → RunsAt new key s (behind place b)
+  batch_next step goes = record {
+    stage = stage ∙ runs.stage;
+    fuel = fuel ∙ runs.fuel;
+    stands = stands_behind x.machine new.machine key place b stage runs.stands ((passed step).next (going_is sent.batch.status (not_last _ _ goes).0));
+  }

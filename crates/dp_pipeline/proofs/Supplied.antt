@@ -1,50 +1,128 @@
--- Empty packets are what comes to the first stage.
-use Rattle.std.proofs.Common.{arith, ◌≡◌, ◌≤◌, ℕ, suc, ◌+◌, List, [], ◌∷◌, length, ◌∙◌}
-use Rattle.dp_semantics.specs.Packets as packets
-use Rattle.dp_semantics.specs.EpochKey.{epoch_of}
-use Rattle.dp_packet.specs.declared.Packet.{Packet}
-use Rattle.dp_packet.specs.declared.PacketStatus.{PacketStatus}
-use Rattle.dp_packet.specs.declared.PacketStatus.TheVariants.{Going, Closing, Void, NoMemory}
-use Rattle.dp_packet.specs.Packet.{IsUnless}
+-- What comes to the first stage is a batch of which nothing is told.
+use Rattle.std.proofs.Common.{arith, ◌≡◌, ◌≤◌, ℕ, suc, ◌+◌, Bool, false, Option, Some, None, IfSome, Result, Ok, Err, OnOk, OnErr, sym, ap, ◌∙◌, subst, refl}
 use Rattle.dp_relay.specs.UnitsKey.{UnitsKey}
-use Rattle.dp_pipeline.specs.declared.batch.Batch.{Batch}
-use Rattle.dp_pipeline.specs.Carried.{IsOnward, IsBatch}
-use Rattle.dp_pipeline.specs.Sizes.{begins, size, EachFrom}
-use Rattle.dp_pipeline.specs.steps.Supplying.{IsFresh, IsFreshBatch}
-use Rattle.dp_pipeline.proofs.Staging.{goes_by}
+use Rattle.dp_lane.specs.declared.rule.View.{View}
+use Rattle.dp_lane.specs.declared.rule.View.TheVariants.{Fresh, Sender, Taker, Spent}
+use Rattle.dp_lane.specs.Ends.{End, moved, refused_once}
+use Rattle.dp_lane.specs.Views as views
+use Rattle.dp_lean_epoch.specs.LeanBatch.{IsLeanBatch}
+use Rattle.dp_lean_region.specs.LeanEpoch.{LeanEpoch, marks_in, kept_in}
+use Rattle.dp_lean_region.specs.Line.{IsLineOf}
+use Rattle.dp_lean_region.specs.declared.line.Line.{Line}
+use Rattle.dp_lean_machine.specs.declared.batch.LeanBatch.{LeanBatch}
+use Rattle.dp_lean_machine.specs.declared.batch.BatchStatus.{BatchStatus}
+use Rattle.dp_lean_machine.specs.declared.batch.BatchStatus.TheVariants.{NoMemory}
+use Rattle.dp_lean_machine.specs.Fresh.{IsFresh}
+use Rattle.dp_lean_machine.specs.Sent.{IsSent, Unless, item_of}
+use Rattle.dp_pipeline.specs.declared.keys.LaneKey.{LaneKey}
+use Rattle.dp_pipeline.specs.declared.carried.Carried.{Carried}
+use Rattle.dp_pipeline.specs.declared.spare.Spare.{Spare}
+use Rattle.dp_pipeline.specs.declared.start.Start.{Start}
+use Rattle.dp_pipeline.specs.declared.supply.Supply.{Supply}
+use Rattle.dp_pipeline.specs.Carried.{lean_of, IsCarried}
+use Rattle.dp_pipeline.specs.Keys.{key_of}
+use Rattle.dp_pipeline.specs.Lanes.{TakesFrom, SendsTo, ComesBack, GoesBack}
+use Rattle.dp_pipeline.specs.Sizes.{begins, size}
+use Rattle.dp_pipeline.specs.Standing.{Starts}
+use Rattle.dp_pipeline.specs.steps.Supplying.{Supplies, IsSupplied}
+use Rattle.dp_pipeline.proofs.Growth.{size_is}
 
--- a packet that says this says it also where memory may have been wanting
-pub told : (status : PacketStatus) (sent wanted : packets.Packet) → sent ≡ wanted → IsUnless status sent wanted
-told Going sent wanted e = e
-told Closing sent wanted e = e
-told (Void stage why) sent wanted e = e
-told NoMemory sent wanted e = tt
+-- what a spare is in its lane
+abbrev pub is_spare : LaneKey → ℕ → Spare → Type 0
+is_spare key k x = IsLineOf (lean_of (key_of key.epoch)) x.batch.line
 
-fresh_onward : (key : UnitsKey) (xs : List Packet) (i k : ℕ) → i ≡ key.epoch.first + k → i + length xs ≤ key.epoch.fuel + 1 → EachFrom IsFresh i xs → EachFrom (IsOnward key 0) k xs
-fresh_onward key [] i k same low all = tt
-fresh_onward key (p ∷ ps) i k same low all =
-    let one = all.0 in let number = one.number in (
-      record {
-        is = record {
-          sent = record { iteration = number ∙ same; packet = goes_by p.status p (packets.passed (epoch_of key.epoch) 0 k).packet (told p.status _ _ one.said) };
-          within = omega (arith, number, low);
-        };
-        goes = one.goes;
-      },
-      fresh_onward key ps (suc i) (suc k) (omega (arith, same)) (omega (arith, low)) all.1,
+-- a batch came back: it is one of the epoch's line
+pub came_back : (old new : View LaneKey) (x : Spare) → views.Takes is_spare old x new → (key : UnitsKey) → ComesBack old key
+    → IsLineOf (lean_of key) x.batch.line × ComesBack new key
+came_back old new x takes key (s, n, at) =
+    let got = subst (λ (v : View LaneKey). views.Takes is_spare v x new) at.view_is takes in (
+      subst (λ (e : UnitsKey). IsLineOf (lean_of e) x.batch.line) at.epoch got.0,
+      (s, n + 1, record { lane = at.lane; view_is = got.1; epoch = at.epoch; stage = at.stage }),
     )
 
-pub starts_batch : (key : UnitsKey) (b i many : ℕ) (x : Batch) → IsFreshBatch i many x → i ≡ key.epoch.first + begins key b → many ≡ size key b → i + many ≤ key.epoch.fuel + 1
-    → IsBatch key 0 b x
-starts_batch key b i many x fresh same full low =
-    let number = fresh.number in let few = fresh.few in record {
-      front = fresh_onward key x.before i (begins key b) same (omega (arith, low, few)) fresh.front;
-      last = record {
-        sent = record {
-          iteration = omega (arith, number, same);
-          packet = goes_by x.last.status x.last (packets.passed (epoch_of key.epoch) 0 (begins key b + length x.before)).packet fresh.said;
-        };
-        within = omega (arith, number, low, few);
-      };
-      whole = λ goes. fresh.whole goes ∙ full;
-    }
+-- .. and one may be sent back
+pub may_go_back : (view : View LaneKey) (x : Spare) (key : UnitsKey) → GoesBack view key → IsLineOf (lean_of key) x.batch.line → views.IsNext is_spare view x
+may_go_back view x key (s, n, at) line =
+    subst (λ (v : View LaneKey). views.IsNext is_spare v x) (sym at.view_is) (subst (λ (e : UnitsKey). IsLineOf (lean_of e) x.batch.line) (sym at.epoch) line)
+
+pub went_back : (view : View LaneKey) (x : Spare) (is_ending : LaneKey → Spare → Bool) (key : UnitsKey) → GoesBack view key → GoesBack (views.after_send is_ending view x) key
+went_back view x is_ending key (s, n, at) =
+    subst (λ (v : View LaneKey). GoesBack (views.after_send is_ending v x) key) (sym at.view_is)
+    (s, n + 1, record { lane = at.lane; ended = is_ending at.lane x; view_is = refl; epoch = at.epoch; stage = at.stage })
+
+-- .. or didn't go
+pub sent_back : {U : Type 0} (r : Result U Spare) (old new : End LaneKey) (x : Spare) → OnOk r (new ≡ moved old (views.after_send (λ (key : LaneKey) (y : Spare). false) old.view x)) → OnErr r (new ≡ refused_once old)
+    → (key : UnitsKey) → GoesBack old.view key → GoesBack new.view key
+sent_back (Ok u) old new x ok err key at = subst (λ (e : End LaneKey). GoesBack e.view key) (sym ok) (went_back old.view x (λ (k : LaneKey) (y : Spare). false) key at)
+sent_back (Err y) old new x ok err key at = subst (λ (e : End LaneKey). GoesBack e.view key) (sym err) at
+
+-- the last one is of the line
+pub last_line : (key : UnitsKey) (line : Line) (o : Option LeanBatch) → IsLineOf (lean_of key) line → IfSome o (λ (batch : LeanBatch). batch.line ≡ line)
+    → IfSome o (λ (batch : LeanBatch). IsLineOf (lean_of key) batch.line)
+last_line key line (Some batch) is same = subst (IsLineOf (lean_of key)) (sym same) is
+last_line key line None is same = tt
+
+-- the batch that says that memory is wanting
+pub wanting_sent : (e : LeanEpoch) (b : ℕ) (x y : LeanBatch) → IsSent e 0 b x → y.status ≡ NoMemory → y.line ≡ x.line → y.first ≡ x.first → IsSent e 0 b y
+wanting_sent e b x y is wanting line first = record {
+  line = subst (IsLineOf e) (sym line) is.line;
+  first = first ∙ is.first;
+  item = subst (λ (status : BatchStatus). Unless status (λ ends. IsLeanBatch (marks_in e) e.key (kept_in e) e.cap 0 b (item_of 0 ends y))) (sym wanting) tt;
+}
+
+-- a batch that came back is given again
+pub came_supplies : (x y : Supply) (came : Spare) → views.Takes is_spare x.spares.view came y.spares.view → y.line ≡ x.line → y.last ≡ x.last
+    → (key : UnitsKey) → Supplies x key → Supplies y key
+came_supplies x y came takes line last key at = record {
+  epoch = at.epoch;
+  line = subst (IsLineOf (lean_of key)) (sym line) at.line;
+  spares = (came_back x.spares.view y.spares.view came takes key at.spares).1;
+  last = subst (λ (o : Option LeanBatch). IfSome o (λ (batch : LeanBatch). IsLineOf (lean_of key) batch.line)) (sym last) at.last;
+}
+
+pub came_fresh : (x : Supply) (new : View LaneKey) (came : Spare) (made : LeanBatch) (first count : ℕ) → views.Takes is_spare x.spares.view came new
+    → IsFresh came.batch.line first count made → IsSupplied x first count made
+came_fresh x new came made first count takes fresh key b at first_is count_is =
+    fresh (lean_of key) b at.epoch (came_back x.spares.view new came takes key at.spares).0 first_is count_is
+
+-- the same where none came back
+pub none_supplies : (x y : Supply) → y.spares.view ≡ x.spares.view → y.line ≡ x.line → y.last ≡ x.last → (key : UnitsKey) → Supplies x key → Supplies y key
+none_supplies x y spares line last key at = record {
+  epoch = at.epoch;
+  line = subst (IsLineOf (lean_of key)) (sym line) at.line;
+  spares = subst (λ (v : View LaneKey). ComesBack v key) (sym spares) at.spares;
+  last = subst (λ (o : Option LeanBatch). IfSome o (λ (batch : LeanBatch). IsLineOf (lean_of key) batch.line)) (sym last) at.last;
+}
+
+-- a new one is of the line, and so is the last
+pub new_supplied : (x : Supply) (made : LeanBatch) (first count : ℕ) → IsFresh x.line first count made → IsSupplied x first count made
+new_supplied x made first count fresh key b at first_is count_is = fresh (lean_of key) b at.epoch at.line first_is count_is
+
+pub last_supplied : (x : Supply) (last renewed made : LeanBatch) (first count : ℕ) → x.last ≡ Some last → IsFresh last.line first count renewed
+    → made.status ≡ NoMemory → made.line ≡ renewed.line → made.first ≡ renewed.first → IsSupplied x first count made
+last_supplied x last renewed made first count there fresh wanting line begin key b at first_is count_is =
+    let own = subst (λ (o : Option LeanBatch). IfSome o (λ (batch : LeanBatch). IsLineOf (lean_of key) batch.line)) there at.last in
+    wanting_sent (lean_of key) b renewed made (fresh (lean_of key) b at.epoch own first_is count_is) wanting line begin
+
+-- what the start gives is its next batch, and it stands at the one behind
+module _ (old new : Start) (x : Carried) (many : ℕ) (fresh : IsSupplied old.supply old.next many x.batch)
+    (stays : (key : UnitsKey) → Supplies old.supply key → Supplies new.supply key) (low : old.next ≤ old.fuel)
+    (first : new.first ≡ old.first) (next : new.next ≡ old.next + many) (fuel : new.fuel ≡ old.fuel) (cap : new.cap ≡ old.cap) where
+  pub starts_batch : (key : UnitsKey) (s n : ℕ) → Starts old key s n → many ≡ size key n → IsCarried key s n x × Starts new key s (n + 1)
+  starts_batch key s n at full =
+      let one : suc n ≡ n + 1 = omega arith in
+      let next_is = at.next in
+      let sum : new.next ≡ key.epoch.first + (begins key n + size key n) = omega (arith, next, next_is, full) in
+      let sent = fresh key n at.supply at.next full in
+      let first_is = sent.first in let fuel_is = at.fuel in
+      let within : x.batch.first ≤ key.epoch.fuel = omega (arith, first_is, next_is, low, fuel_is) in (
+        subst (λ (t : ℕ). IsCarried key t n x) (sym at.stage) (record { sent = sent; within = within }),
+        record {
+          first = first ∙ at.first;
+          next = sum ∙ ap (λ (b : ℕ). key.epoch.first + begins key b) one;
+          fuel = fuel ∙ at.fuel;
+          cap = cap ∙ at.cap;
+          supply = stays key at.supply;
+          stage = at.stage;
+        },
+      )

@@ -10,6 +10,6 @@ abbrev pub key_at : Prepared → List ℤ → Begin → EpochKey
 key_at region input begin =
     record { program = region.program; plan = region.plan; input = input; first = begin.first; base = begin.base.now; steps = begin.steps; fuel = begin.fuel }
 
--- .. and whether its verdicts tell stages, and how many iterations go together at most
+-- .. and how many iterations go together at most
 abbrev pub units_key_at : Prepared → List ℤ → Begin → ℕ → UnitsKey
-units_key_at region input begin cap = record { epoch = key_at region input begin; tells_stages = begin.tells_stages; cap = cap }
+units_key_at region input begin cap = record { epoch = key_at region input begin; cap = cap }

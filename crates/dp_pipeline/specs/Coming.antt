@@ -1,19 +1,18 @@
 -- What a clause sees of the verdicts of an epoch.
-use Rattle.std.specs.Prelude.{◌≡◌, ℕ, ◌+◌, Bool, false, []}
+use Rattle.std.specs.Prelude.{◌≡◌, ℕ, ◌+◌, false, []}
 use Rattle.dp_semantics.specs.EpochKey.{EpochKey}
 use Rattle.dp_semantics.specs.EpochVerdicts.{verdict_at}
 use Rattle.dp_judge.specs.declared.verdict.Verdict.{Verdict}
-use Rattle.dp_judge.specs.Told.{Says, TellsStages}
+use Rattle.dp_judge.specs.Told.{Says}
 use Rattle.dp_lane.specs.declared.rule.View.{View}
 use Rattle.dp_lane.specs.declared.rule.View.TheVariants.{Taker}
 use Rattle.dp_pipeline.specs.declared.keys.EpochKey.{EpochKey as Held}
 use Rattle.dp_pipeline.specs.declared.keys.LaneKey.{LaneKey}
 use Rattle.dp_pipeline.specs.Keys.{key_of}
 
--- what the epoch depends on, whether its verdicts tell stages, and how many of them were given
+-- what the epoch depends on, and how many of its verdicts were given
 pub record Coming : Type 0 where
   pub key : EpochKey
-  pub tells_stages : Bool
   pub given : ℕ
 
 -- the key of an end that takes nothing
@@ -30,17 +29,15 @@ no_key = record {
 
 -- what comes of an epoch of which no verdict was given
 abbrev pub coming_of : Held → Coming
-coming_of epoch = record { key = (key_of epoch).epoch; tells_stages = epoch.tells_stages; given = 0 }
+coming_of epoch = record { key = (key_of epoch).epoch; given = 0 }
 
 -- what comes on the end of a lane, of whose verdicts so many were given
 abbrev pub coming_on : View LaneKey → ℕ → Coming
-coming_on (Taker lane taken) given = record { key = (key_of lane.epoch).epoch; tells_stages = lane.epoch.tells_stages; given = given }
-coming_on _ given = record { key = no_key; tells_stages = false; given = given }
+coming_on (Taker lane taken) given = record { key = (key_of lane.epoch).epoch; given = given }
+coming_on _ given = record { key = no_key; given = given }
 
 -- the next verdict came
 pub record Comes (verdict : Verdict) (old new : Coming) : Type 0 where
-  pub verdict_is : Says verdict (verdict_at old.key old.given)
-  pub stages_are : TellsStages old.tells_stages old.key old.given verdict
+  pub verdict_is : Says old.key verdict (verdict_at old.key old.given)
   pub key_is : new.key ≡ old.key
-  pub tells_is : new.tells_stages ≡ old.tells_stages
   pub given_is : new.given ≡ old.given + 1

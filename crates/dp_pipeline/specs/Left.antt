@@ -1,35 +1,49 @@
 -- The verdicts of a batch that came, as they are given.
-use Rattle.std.specs.Prelude.{◌≡◌, ◌<◌, ◌^◌, ℕ, ◌+◌, false, List, [], ◌∷◌, ◌++◌, length, reverse, Option, Some, None}
+use Rattle.std.specs.Prelude.{◌≡◌, ◌<◌, ◌^◌, ◌⊎◌, ℕ, ◌+◌, false, List, [], ◌∷◌, length, Option, Some, None}
 use Rattle.dp_judge.specs.declared.verdict.Verdict.{Verdict}
+use Rattle.dp_judge.specs.declared.verdict.Verdict.TheVariants.{NoMemory}
 use Rattle.dp_lane.specs.declared.rule.View.{View}
 use Rattle.dp_lane.specs.declared.rule.View.TheVariants.{Taker}
+use Rattle.dp_judge.specs.Decided.{left_to_give}
 use Rattle.dp_relay.specs.UnitsKey.{UnitsKey}
 use Rattle.dp_pipeline.specs.Carried.{IsTold}
 use Rattle.dp_pipeline.specs.Keys.{key_of}
+use Rattle.dp_pipeline.specs.Lanes.{GoesBack}
 use Rattle.dp_pipeline.specs.Sizes.{begins, EachFrom}
 use Rattle.dp_pipeline.specs.declared.keys.LaneKey.{LaneKey}
 use Rattle.dp_pipeline.specs.declared.told.Told.{Told}
 
-abbrev pub one_of : Option Verdict → List Verdict
-one_of (Some v) = v ∷ []
-one_of None = []
-
--- those that are left, in order
+-- the verdicts that aren't given yet, in order
 abbrev pub left_of : Told → List Verdict
-left_of t = reverse t.front ++ one_of t.last
+left_of t = left_to_give t.batch
 
--- the next one was given, or none is left
-abbrev pub GivesNext : Option Verdict → Told → Told → Type 0
-GivesNext (Some v) old new = (left_of old ≡ v ∷ left_of new) × (new.given ≡ old.given + 1) × (new.over ≡ old.over)
-GivesNext None old new = (left_of old ≡ []) × (new ≡ old)
-
--- so many batches came, and these are the verdicts of the last of them that aren't given yet
+-- so many batches came, and these are the verdicts on the last of them that aren't given yet
 pub record Awaits (key : UnitsKey) (taken : ℕ) (t : Told) : Type 0 where
   pub left : EachFrom (IsTold key) t.given (left_of t)
   pub next : t.over ≡ false → t.given + length (left_of t) ≡ begins key taken
   pub few : t.given + length (left_of t) < 2 ^ 63
 
--- .. out of this lane
-abbrev pub AwaitsOn : View LaneKey → Told → Type 0
-AwaitsOn (Taker lane taken) t = Awaits (key_of lane.epoch) taken t
-AwaitsOn _ t = (left_of t ≡ []) × (t.given < 2 ^ 63)
+-- the next is given, and what was behind it is left; or memory was wanting for it, and no others follow
+pub record GivesOne (v : Verdict) (old new : Told) : Type 0 where
+  pub first : Verdict
+  pub rest : List Verdict
+  pub left : left_of old ≡ first ∷ rest
+  pub given : new.given ≡ old.given + 1
+  pub told : (v ≡ first) ⊎ (v ≡ NoMemory)
+  pub behind : (left_of new ≡ rest) ⊎ (left_of new ≡ [])
+  pub onward : new.over ≡ false → (left_of new ≡ rest) × (old.over ≡ false)
+
+-- .. or none is left
+abbrev pub GivesNext : Option Verdict → Told → Told → Type 0
+GivesNext (Some v) old new = GivesOne v old new
+GivesNext None old new = (left_of old ≡ []) × (left_of new ≡ []) × (new.given ≡ old.given) × (new.over ≡ old.over)
+
+-- the batches that come out of one lane go back on another
+abbrev pub BackOf : View LaneKey → View LaneKey → Type 0
+BackOf (Taker lane taken) back = GoesBack back (key_of lane.epoch)
+BackOf _ back = Unit {0}
+
+-- the verdicts come out of this lane, and their batches go back on that one
+abbrev pub AwaitsOn : View LaneKey → View LaneKey → Told → Type 0
+AwaitsOn (Taker lane taken) back t = Awaits (key_of lane.epoch) taken t × GoesBack back (key_of lane.epoch)
+AwaitsOn _ back t = (left_of t ≡ []) × (t.given < 2 ^ 63)

@@ -1,5 +1,6 @@
 pub mod Keys
 pub mod Begin
+pub mod Lanes
 pub mod Sizes
 pub mod Carried
 pub mod Seats

@@ -1,20 +1,19 @@
 -- Where a stage and the try-commit unit stand in an epoch.
-use Rattle.std.specs.Prelude.{◌≡◌, ◌<◌, ◌^◌, ℕ, ◌-◌, true, length, Option, Some, None}
+use Rattle.std.specs.Prelude.{◌≡◌, ◌≤◌, ℕ, ◌-◌, true, length, Option, Some, None}
 use Rattle.dp_plan.specs.Access.{is_replicated}
-use Rattle.dp_semantics.specs.EpochKey.{epoch_of}
 use Rattle.dp_relay.specs.UnitsKey.{UnitsKey}
-use Rattle.dp_machine.specs.declared.stage.StageMachine.{StageMachine}
-use Rattle.dp_machine.specs.Machine.{Stands}
-use Rattle.dp_judge.specs.declared.trying.TryCommit.{TryCommit}
-use Rattle.dp_judge.specs.Standing.{Judges}
-use Rattle.dp_pipeline.specs.Sizes.{begins}
+use Rattle.dp_lean_machine.specs.declared.machine.LeanMachine.{LeanMachine}
+use Rattle.dp_lean_machine.specs.Standing.{Stands}
+use Rattle.dp_judge.specs.declared.court.LeanCourt.{LeanCourt}
+use Rattle.dp_judge.specs.Judging.{Judges}
+use Rattle.dp_pipeline.specs.Carried.{lean_of}
 use Rattle.dp_pipeline.specs.declared.staged.Staged.{Staged}
 use Rattle.dp_pipeline.specs.declared.judge.Judge.{Judge}
 
--- the machine stands where the batch at this place begins; that of a replicated stage at any iteration
-abbrev pub StandsFor : StageMachine → UnitsKey → Option ℕ → Type 0
-StandsFor m key (Some b) = Stands m (epoch_of key.epoch) (begins key b)
-StandsFor m key None = (is_replicated key.epoch.plan m.stage ≡ true) × ((n : ℕ) → Stands m (epoch_of key.epoch) n)
+-- the machine takes the batch at this place next; that of a replicated stage takes any
+abbrev pub StandsFor : LeanMachine → UnitsKey → Option ℕ → Type 0
+StandsFor m key (Some b) = Stands m (lean_of key) b
+StandsFor m key None = (is_replicated key.epoch.plan m.stage ≡ true) × ((b : ℕ) → Stands m (lean_of key) b)
 
 -- It is stage s of the epoch, and stands at this place.
 pub record RunsAt (x : Staged) (key : UnitsKey) (s : ℕ) (place : Option ℕ) : Type 0 where
@@ -22,14 +21,13 @@ pub record RunsAt (x : Staged) (key : UnitsKey) (s : ℕ) (place : Option ℕ) :
   pub fuel : x.fuel ≡ key.epoch.fuel
   pub stands : StandsFor x.machine key place
 
--- the judging stands where the batch at this place begins
-abbrev pub JudgesFor : TryCommit → UnitsKey → Option ℕ → Type 0
-JudgesFor t key (Some b) = Judges t key.epoch (begins key b)
+-- the batch at this place is judged next
+abbrev pub JudgesFor : LeanCourt → UnitsKey → Option ℕ → Type 0
+JudgesFor t key (Some b) = Judges t (lean_of key) b
 JudgesFor t key None = ⊥
 
 -- It comes after the last stage of the epoch, and stands at this place.
 pub record JudgesAt (x : Judge) (key : UnitsKey) (s : ℕ) (place : Option ℕ) : Type 0 where
   pub before : s - 1 ≡ length key.epoch.plan.stages
-  pub tells : x.court.tells_stages ≡ key.tells_stages
   pub stands : JudgesFor x.court key place
-  pub few : key.epoch.fuel < 2 ^ 62
+  pub few : key.epoch.fuel ≤ 1000000000

@@ -14,24 +14,10 @@ use Rattle.dp_pipeline.specs.declared.target.Target.TheVariants as target
 use Rattle.dp_pipeline.specs.declared.passage.Passage.{Passage}
 use Rattle.dp_pipeline.specs.declared.judging.Judging.{Judging}
 use Rattle.dp_relay.specs.Facts.{Facts}
-use Rattle.dp_pipeline.specs.Keys.{key_of}
+use Rattle.dp_pipeline.specs.Lanes.{TakesFrom, SendsTo}
 use Rattle.dp_pipeline.specs.Sizes.{begins}
+use Rattle.dp_pipeline.specs.steps.Supplying.{Supplies}
 use Rattle.dp_pipeline.specs.Seats.{CollectsFrom, PutsTo, seat_facts}
-
--- a lane of what stage s sends in the epoch, from which n items were taken
-pub record TakesFrom (view : View LaneKey) (key : UnitsKey) (s n : ℕ) : Type 0 where
-  pub lane : LaneKey
-  pub view_is : view ≡ Taker lane n
-  pub epoch : key_of lane.epoch ≡ key
-  pub stage : lane.stage ≡ s
-
--- .. on which n items were sent
-pub record SendsTo (view : View LaneKey) (key : UnitsKey) (s n : ℕ) : Type 0 where
-  pub lane : LaneKey
-  pub ended : Bool
-  pub view_is : view ≡ Sender lane n ended
-  pub epoch : key_of lane.epoch ≡ key
-  pub stage : lane.stage ≡ s
 
 -- what starts the epoch's iterations, n batches of which were started
 pub record Starts (x : First) (key : UnitsKey) (s n : ℕ) : Type 0 where
@@ -39,6 +25,7 @@ pub record Starts (x : First) (key : UnitsKey) (s n : ℕ) : Type 0 where
   pub next : x.next ≡ key.epoch.first + begins key n
   pub fuel : x.fuel ≡ key.epoch.fuel
   pub cap : x.cap ≡ key.cap
+  pub supply : Supplies x.supply key
   pub stage : s ≡ 0
 
 -- what stage s sends in the epoch comes from here, and n items came

@@ -1,4 +1,2 @@
-pub mod Ending
-pub mod Makes
 pub mod Setting
 pub mod Supplying

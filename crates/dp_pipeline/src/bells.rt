@@ -2,7 +2,6 @@
 ghost use Rattle.std.specs.Prelude.{◌≡◌, ◌+◌, suc, length, IfOk, OnOk};
 ghost use Rattle.dp_pipeline.specs.UnitCount.{unit_count, unit_count_of};
 
-use crate::growing::cap_of;
 use crate::size::CrewSize;
 use dp_base::NoMemory;
 use dp_plan::{Plan, StageKind};
@@ -19,7 +18,7 @@ pub fn bells_for(
 ) -> Result<Vec<Bell>, NoMemory>
     ensures { IfOk result (λ bells. length bells.items ≡ suc (unit_count size.workers region.now.plan)) }
 {
-    bells_of(alloc, region.plan(), size, cap_of(region) as u32)
+    bells_of(alloc, region.plan(), size, region.cap() as u32)
 }
 
 /// The same, of units of a plan whose items are of so many iterations at most.

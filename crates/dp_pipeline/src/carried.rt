@@ -1,24 +1,21 @@
-//! Packets that go from stage to stage.
+//! Batches that go from stage to stage.
 ghost use Rattle.std.specs.Prelude.{◌-◌};
 ghost use Rattle.dp_pipeline.specs.Carried.{IsCarried, is_last_carried};
 ghost use Rattle.dp_pipeline.specs.Keys.{key_of};
 
-use crate::batch::Batch;
 use crate::keys::LaneKey;
-use dp_base::Row;
-use dp_judge::Verdict;
+use dp_judge::ToldBatch;
 use dp_lane::LaneItem;
-use dp_plan::Plan;
+use dp_lean_machine::LeanBatch;
 use dp_relay::Item;
 use dp_ring::RingItem;
 
 /// A batch of an epoch.
 #[derive(Drop)]
 pub struct Carried<'p> {
-    pub packets: Batch,
+    pub batch: LeanBatch<'p>,
     /// Room for the verdicts: what it holds means nothing.
-    pub told: Row<Verdict>,
-    pub plan: &'p Plan,
+    pub told: ToldBatch,
 }
 
 impl<'p> Item for Carried<'p> {

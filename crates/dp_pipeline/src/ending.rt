@@ -1,51 +1,46 @@
-//! Which packets and verdicts are the last of their epoch.
-ghost use Rattle.std.specs.Prelude.{◌≡◌, not};
-ghost use Rattle.dp_judge.specs.Told.{goes_on_behind};
-ghost use Rattle.dp_pipeline.specs.Carried.{ends_told};
-ghost use Rattle.dp_pipeline.specs.steps.Ending.{ends_with, is_going_on};
+//! Which batches and verdicts are the last of their epoch.
+ghost use Rattle.std.specs.Prelude.{◌≡◌, ◌-◌, false, not, ◌&&◌, nat_le};
+ghost use Rattle.dp_judge.specs.declared.verdict.Verdict.TheVariants.{NoMemory};
+ghost use Rattle.dp_judge.specs.Decided.{left_to_give};
+ghost use Rattle.dp_pipeline.specs.Carried.{all_onward, is_going_on};
 
-use dp_judge::Verdict;
-use dp_packet::{Packet, PacketStatus};
+use dp_judge::{ToldBatch, Verdict};
+use dp_lean_machine::{BatchStatus, LeanBatch};
 
-/// No packet follows this one.
-pub(crate) fn is_last_packet(packet: &Packet, fuel: u64) -> bool
-    ensures { result ≡ ends_with fuel packet.now.status packet.now.iteration }
+/// The epoch goes on behind a batch that stands so, as far as the stages know.
+fn goes_on(status: BatchStatus) -> bool
+    ensures { result ≡ is_going_on status }
 {
-    match packet.status {
-        PacketStatus::Going => packet.iteration == fuel,
-        PacketStatus::Closing => true,
-        PacketStatus::Void { .. } => true,
-        PacketStatus::NoMemory => true,
+    match status {
+        BatchStatus::Going => true,
+        BatchStatus::Closing => false,
+        BatchStatus::Void => false,
+        BatchStatus::NoMemory => false,
     }
 }
 
-/// No verdict follows this one.
-#[tactic(auto, using(crate::proofs::Staging::twice_not))]
-pub(crate) fn is_last_verdict(verdict: &Verdict) -> bool
-    ensures { result ≡ not (goes_on_behind verdict.now) }
+/// No batch follows this one.
+pub(crate) fn is_last_batch(batch: &LeanBatch<'_>, fuel: u64) -> bool
+    ensures { result ≡ not (is_going_on batch.now.status && nat_le batch.now.iterations (fuel - batch.now.first)) }
+{
+    let left = fuel.saturating_sub(batch.first());
+    !(goes_on(batch.status()) && batch.iterations() as u64 <= left)
+}
+
+/// No verdict follows these on this batch.
+pub(crate) fn is_last_told(batch: &LeanBatch<'_>, told: &ToldBatch) -> bool
+    ensures { result ≡ not (is_going_on batch.now.status && all_onward (left_to_give told.now)) }
+{
+    !(goes_on(batch.status()) && told.goes_on())
+}
+
+/// Memory was wanting for the verdict.
+pub(crate) fn is_wanting(verdict: &Verdict) -> bool
+    ensures { result ≡ false → verdict.now ≡ NoMemory → ⊥ }
 {
     match verdict {
-        Verdict::Clean(clean) => clean.closing(),
-        Verdict::Unclean => true,
+        Verdict::Clean(_) => false,
+        Verdict::Unclean => false,
         Verdict::NoMemory => true,
     }
-}
-
-/// The epoch goes on behind the packet, as far as the stages know.
-pub(crate) fn goes_on(packet: &Packet) -> bool
-    ensures { result ≡ is_going_on packet.now.status }
-{
-    match packet.status {
-        PacketStatus::Going => true,
-        PacketStatus::Closing => false,
-        PacketStatus::Void { .. } => false,
-        PacketStatus::NoMemory => false,
-    }
-}
-
-/// No verdict follows this last one of a batch, the last packet of which is this one.
-pub(crate) fn ends_with_verdict(verdict: &Verdict, packet: &Packet) -> bool
-    ensures { result ≡ ends_told verdict.now packet.now.status }
-{
-    is_last_verdict(verdict) || !goes_on(packet)
 }

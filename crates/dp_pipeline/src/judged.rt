@@ -2,23 +2,18 @@
 ghost use Rattle.dp_pipeline.specs.Carried.{IsJudged, is_last_judged};
 ghost use Rattle.dp_pipeline.specs.Keys.{key_of};
 
-use crate::batch::Batch;
 use crate::keys::LaneKey;
-use dp_base::Row;
-use dp_judge::Verdict;
+use dp_judge::ToldBatch;
 use dp_lane::LaneItem;
-use dp_plan::Plan;
+use dp_lean_machine::LeanBatch;
 use dp_relay::Item;
 
 /// The verdicts on a batch, up to the first behind which the epoch doesn't go on.
 #[derive(Drop)]
 pub struct Judged<'p> {
-    /// Those in front of the last.
-    pub told: Row<Verdict>,
-    pub last: Verdict,
-    pub plan: &'p Plan,
+    pub told: ToldBatch,
     /// What was judged. The thread that takes the verdicts sends it back, since the judge has more to do.
-    pub packets: Batch,
+    pub batch: LeanBatch<'p>,
 }
 
 impl<'p> Item for Judged<'p> {

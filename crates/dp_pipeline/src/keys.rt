@@ -1,13 +1,13 @@
-//! What the packets and the verdicts of an epoch depend on.
+//! What the batches and the verdicts of an epoch depend on.
 ghost use Rattle.std.specs.Prelude.{◌≡◌, IfOk};
-ghost use Rattle.dp_prepared.specs.Planned.{IsPlanned};
+ghost use Rattle.dp_prepared.specs.Planned.{prepared_of};
 ghost use Rattle.dp_pipeline.specs.Begin.{units_key_at};
 ghost use Rattle.dp_pipeline.specs.Keys.{key_of};
+ghost use Rattle.dp_lean_region.specs.Line.{cap_of, plan_of, program_of};
 
-use crate::growing::cap_of;
 use dp_base::{Cells, NoMemory};
+use dp_lean_region::Line;
 use dp_plan::Plan;
-use dp_prepared::PreparedRegion;
 use dp_tree::Program;
 
 /// Where an epoch of a region begins.
@@ -20,12 +20,10 @@ pub struct Begin<'b> {
     /// The steps made by then.
     pub steps: u64,
     pub fuel: u64,
-    /// Whether a clean iteration tells the stages of its stores.
-    pub tells_stages: bool,
 }
 
-/// An epoch: its first iteration, the memory in which it begins, the steps made by then, and the fuel; whether a clean
-/// iteration tells the stages of its stores; and how many iterations go together.
+/// An epoch: its first iteration, the memory in which it begins, the steps made by then, and the fuel; and how many iterations
+/// go together.
 pub struct EpochKey<'p> {
     pub p: &'p Program,
     pub plan: &'p Plan,
@@ -34,7 +32,6 @@ pub struct EpochKey<'p> {
     pub base: Cells,
     pub steps: u64,
     pub fuel: u64,
-    pub tells_stages: bool,
     /// How many iterations go together at most.
     pub cap: u64,
 }
@@ -50,34 +47,28 @@ impl<'p> Drop for EpochKey<'p> {
             base: _,
             steps: _,
             fuel: _,
-            tells_stages: _,
             cap: _,
         } = self;
     }
 }
 
 impl<'u> EpochKey<'u> {
-    /// The key of the region's epoch that begins so, with a memory of its own.
-    pub(crate) fn copied<'p>(
-        region: &'u PreparedRegion<'p>,
-        input: &'u [i64],
-        begin: Begin<'_>,
-    ) -> Result<EpochKey<'u>, NoMemory>
-        ensures planned { IsPlanned region.now.program region.now.plan }
-        ensures program { IfOk result (λ key. key.p.now ≡ region.now.program) }
-        ensures plan { IfOk result (λ key. key.plan.now ≡ region.now.plan) }
-        ensures key { IfOk result (λ key. key_of key ≡ units_key_at region.now input.now begin.entry key.cap) }
+    /// The key of the line's epoch that begins so, with a memory of its own.
+    pub(crate) fn copied(line: Line<'u>, begin: Begin<'_>) -> Result<EpochKey<'u>, NoMemory>
+        ensures program { IfOk result (λ key. key.p.now ≡ program_of line.entry) }
+        ensures plan { IfOk result (λ key. key.plan.now ≡ plan_of line.entry) }
+        ensures cap { IfOk result (λ key. key.cap ≡ cap_of line.entry) }
+        ensures key { IfOk result (λ key. key_of key ≡ units_key_at (prepared_of (program_of line.entry) (plan_of line.entry)) line.entry.input.now begin.entry (cap_of line.entry)) }
     {
         Ok(EpochKey {
-            p: region.program(),
-            plan: region.plan(),
-            input,
+            p: line.program(),
+            plan: line.plan(),
+            input: line.input,
             first: begin.first,
             base: begin.base.copy()?,
             steps: begin.steps,
             fuel: begin.fuel,
-            tells_stages: begin.tells_stages,
-            cap: cap_of(region),
+            cap: line.cap(),
         })
     }
 
@@ -93,7 +84,6 @@ impl<'u> EpochKey<'u> {
             base,
             steps: _,
             fuel: _,
-            tells_stages: _,
             cap: _,
         } = self;
         base

@@ -2,11 +2,9 @@
 //! thread may make.
 #![tactic(auto)]
 
-mod batch;
 mod bells;
 mod carried;
 mod ending;
-mod fresh;
 mod growing;
 mod judge;
 mod judged;
@@ -30,7 +28,6 @@ mod trying;
 mod unit;
 mod verdicts;
 
-pub use batch::Batch;
 pub use bells::bells_for;
 pub use carried::Carried;
 pub use judged::Judged;

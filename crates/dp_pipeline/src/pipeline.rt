@@ -35,11 +35,13 @@ impl<'u> Pipeline<'u> {
         requires fuel { begin.fuel ≤ 1000000000 }
         ensures units { IfOk result (λ made. length made.units ≡ unit_count size.workers region.now.plan) }
         ensures setter { setter.new ≡ setter.old }
-        ensures verdicts { IfOk result (λ made. made.verdicts ≡ record { key = key_at region.now input.now begin.entry; tells_stages = begin.entry.tells_stages; given = 0 }) }
+        ensures verdicts { IfOk result (λ made. made.verdicts ≡ record { key = key_at region.now input.now begin.entry; given = 0 }) }
     {
-        let epoch = EpochKey::copied(region, input, begin)?;
+        let line = region.line(input);
+        line.epochs_are_lawful();
+        let epoch = EpochKey::copied(line, begin)?;
         let key = LaneKey { epoch, stage: 1 };
-        let setting = Setting { region, size, key };
+        let setting = Setting { line, size, key };
         pipeline_of(alloc, setting, setter)
     }
 }

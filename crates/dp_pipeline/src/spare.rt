@@ -1,52 +1,72 @@
 //! Batches on their way back to the first stage.
-ghost use Rattle.std.specs.Prelude.{◌≡◌, false, true, is_some, IfOk};
-ghost use Rattle.dp_lane.specs.Ends.{is_sender};
+ghost use Rattle.std.specs.Prelude.{false, IfOk};
+ghost use Rattle.dp_lean_region.specs.LeanEpoch.{IsLeanEpoch};
+ghost use Rattle.dp_lean_region.specs.Line.{IsLineOf};
+ghost use Rattle.dp_pipeline.specs.Carried.{lean_of};
+ghost use Rattle.dp_pipeline.specs.Keys.{key_of};
+ghost use Rattle.dp_pipeline.specs.Lanes.{GoesBack};
+ghost use Rattle.dp_pipeline.specs.steps.Supplying.{Supplies};
 
-use crate::batch::Batch;
+use crate::keys::LaneKey;
 use crate::supply::Supply;
-use dp_base::{NoMemory, Row};
-use dp_judge::Verdict;
+use dp_base::NoMemory;
+use dp_judge::ToldBatch;
 use dp_lane::{LaneItem, SendEnd, lane};
+use dp_lean_machine::LeanBatch;
+use dp_lean_region::Line;
 use std::alloc::Global;
 use std::sync::Wait;
 
-/// A batch whose room is used again: what it says means nothing.
+/// A batch whose room is used again: it is one of its epoch's line, and what else it says means nothing.
 #[derive(Drop)]
-pub struct Spare {
-    pub packets: Batch,
+pub struct Spare<'p> {
+    pub batch: LeanBatch<'p>,
     /// Room for verdicts.
-    pub told: Row<Verdict>,
+    pub told: ToldBatch,
 }
 
-impl LaneItem for Spare {
-    type Key = u64;
+impl<'p> LaneItem for Spare<'p> {
+    type Key = LaneKey<'p>;
 
-    ghost is_item = { λ _ _ _. Unit {0} };
+    ghost is_item = { λ key _ x. IsLineOf (lean_of (key_of key.epoch)) x.batch.line };
 
     ghost is_ending = { λ _ _. false };
 }
 
 /// Where judged batches are sent back.
 #[derive(Drop)]
-pub struct Back {
-    end: SendEnd<Spare>,
-    ghost sender: { is_sender end.view ≡ true },
+pub struct Back<'p> {
+    pub(crate) end: SendEnd<Spare<'p>>,
 }
 
-impl Back {
+impl<'p> Back<'p> {
+    ghost use Rattle.dp_relay.specs.UnitsKey.{UnitsKey};
+
     /// Sends a batch back, or frees it.
-    pub(crate) fn send<R: Wait>(&mut self, rt: &R, spare: Spare) {
+    pub(crate) fn send<R: Wait>(&mut self, rt: &R, spare: Spare<'p>)
+        requires { (key : UnitsKey) × GoesBack self.old.end.view key × IsLineOf (lean_of key) spare.batch.line }
+        ensures { (key : UnitsKey) → GoesBack self.old.end.view key → GoesBack self.new.end.view key }
+    {
         drop(self.end.send(rt, spare));
     }
 }
 
-/// The way back for batches that were judged, and what gives them out again. So many lanes of so many places hold the
-/// batches of an epoch, and all of them may be on their way back at once.
-pub(crate) fn way_back(alloc: Global, lanes: u32, places: u32) -> Result<(Back, Supply), NoMemory>
-    ensures { IfOk result (λ made. is_some made.1.last ≡ true) }
+/// The way back for batches of the key's epoch that were judged, and what gives them out again. So many lanes of so many places
+/// hold the batches of an epoch, and all of them may be on their way back at once.
+pub(crate) fn way_back<'p>(
+    alloc: Global,
+    key: &LaneKey<'p>,
+    line: Line<'p>,
+    lanes: u32,
+    places: u32,
+) -> Result<(Back<'p>, Supply<'p>), NoMemory>
+    requires lean { IsLeanEpoch (lean_of (key_of key.now.epoch)) }
+    requires line { IsLineOf (lean_of (key_of key.now.epoch)) line }
+    ensures back { IfOk result (λ made. GoesBack made.0.end.view (key_of key.now.epoch)) }
+    ensures supply { IfOk result (λ made. Supplies made.1 (key_of key.now.epoch)) }
 {
     let room = lanes.saturating_mul(places).max(1);
-    let (end, spares) = lane::<Spare>(alloc, &0, room)?;
-    let supply = Supply::new(alloc, spares)?;
+    let (end, spares) = lane::<Spare>(alloc, key, room)?;
+    let supply = Supply::new(alloc, line, spares)?;
     Ok((Back { end }, supply))
 }

@@ -1,9 +1,7 @@
 //! How the units that run one stage are made.
-ghost use Rattle.std.specs.Prelude.{◌≡◌, ◌<◌, ◌-◌, suc, true, false, Some, length, IfOk, OnOk, ◌+◌};
+ghost use Rattle.std.specs.Prelude.{◌≡◌, ◌<◌, ◌≤◌, ◌-◌, suc, true, false, Some, length, IfOk, OnOk, ◌+◌};
 ghost use Rattle.dp_plan.specs.Access.{is_replicated};
 ghost use Rattle.dp_plan.specs.Each.{Each};
-ghost use Rattle.dp_semantics.specs.EpochKey.{epoch_of};
-ghost use Rattle.dp_machine.specs.Machine.{Stands};
 ghost use Rattle.dp_pipeline.specs.Keys.{key_of};
 ghost use Rattle.dp_pipeline.specs.Seats.{IsUnused};
 ghost use Rattle.dp_pipeline.specs.steps.Setting.{IsSetting};
@@ -19,7 +17,7 @@ use crate::target::Target;
 use crate::tickets::Tickets;
 use crate::unit::{Kind, Unit};
 use dp_base::{Boxed, NoMemory, Row};
-use dp_machine::StageMachine;
+use dp_lean_machine::LeanMachine;
 use dp_plan::{Plan, StageKind};
 use dp_relay::Relay;
 use dp_ring::WorkerSeat;
@@ -37,46 +35,25 @@ pub(crate) fn next_is_replicated(plan: &Plan, stage: u32) -> bool
     }
 }
 
-/// The machine of the stage with this number, where the epoch begins.
-fn machine_of<'u, 'p>(
-    alloc: Global,
-    setting: &Setting<'u, 'p>,
-    stage: u32,
-) -> Result<StageMachine<'u>, NoMemory>
-    requires setting { IsSetting setting.now }
-    requires numbered { 0 < stage }
-    ensures stands { IfOk result (λ machine. Stands machine (epoch_of (key_of setting.now.key.epoch).epoch) 0) }
-    ensures stage { IfOk result (λ machine. machine.stage ≡ stage) }
-{
-    let epoch = &setting.key.epoch;
-    match setting.region.stage(stage, epoch.input) {
-        Some((frame, ready)) => StageMachine::new(alloc, frame, ready, stage, &epoch.base),
-        None => Err(NoMemory),
-    }
-}
-
 /// What runs the stage with this number, from the epoch's beginning on.
-fn staged<'u, 'p>(
-    alloc: Global,
-    setting: &Setting<'u, 'p>,
-    stage: u32,
-) -> Result<Staged<'u>, NoMemory>
+fn staged(alloc: Global, setting: &Setting<'_>, stage: u32) -> Result<Staged, NoMemory>
     requires setting { IsSetting setting.now }
-    requires numbered { 0 < stage }
+    requires stage { (0 < stage) × (stage ≤ length setting.now.key.epoch.plan.now.stages) }
     ensures { IfOk result (λ made. RunsAt made (key_of setting.now.key.epoch) stage (Some 0)) }
 {
-    let machine = machine_of(alloc, setting, stage)?;
+    let epoch = &setting.key.epoch;
+    let machine = LeanMachine::new(alloc, epoch.plan, stage as usize, &epoch.base)?;
     Ok(Staged {
         machine,
         stage,
-        fuel: setting.key.epoch.fuel,
+        fuel: epoch.fuel,
     })
 }
 
-/// Adds the one unit of the stage with this number, which takes its packets in order.
-pub(crate) fn add_unit<'u, 'p>(
+/// Adds the one unit of the stage with this number, which takes its batches in order.
+pub(crate) fn add_unit<'u>(
     alloc: Global,
-    setting: &Setting<'u, 'p>,
+    setting: &Setting<'u>,
     stage: u32,
     source: Source<'u>,
     target: Target<'u>,
@@ -84,7 +61,7 @@ pub(crate) fn add_unit<'u, 'p>(
     setter: &mut StopSetter,
 ) -> Result<(), NoMemory>
     requires setting { IsSetting setting.now }
-    requires numbered { 0 < stage }
+    requires stage { (0 < stage) × (stage ≤ length setting.now.key.epoch.plan.now.stages) }
     requires start { Gives source (key_of setting.now.key.epoch) (stage - 1) 0 × Gets target (key_of setting.now.key.epoch) stage 0 }
     requires counts { ((source_facts source).count ≡ 0) × ((target_facts target).count ≡ 0) × (target_ended target ≡ false) }
     ensures count { OnOk result (length units.new ≡ length units.old + 1) }
@@ -97,14 +74,15 @@ pub(crate) fn add_unit<'u, 'p>(
 }
 
 /// A worker of the setting's stage, at a seat of its ring.
-fn worker<'u, 'p>(
+fn worker<'u>(
     alloc: Global,
-    setting: &Setting<'u, 'p>,
+    setting: &Setting<'u>,
     at: WorkerSeat<Carried<'u>>,
     seat: StopSeat,
 ) -> Result<Unit<'u>, NoMemory>
     requires setting { IsSetting setting.now }
-    requires replicated { is_replicated setting.now.region.now.plan setting.now.key.stage ≡ true }
+    requires within { setting.now.key.stage ≤ length setting.now.key.epoch.plan.now.stages }
+    requires replicated { is_replicated setting.now.key.epoch.plan.now setting.now.key.stage ≡ true }
     requires at { IsUnused setting.now.key at }
     requires seat { seat.seen ≡ false }
 {
@@ -119,15 +97,16 @@ fn worker<'u, 'p>(
 }
 
 /// Adds a worker for each of these seats at the ring of the setting's stage.
-pub(crate) fn add_workers<'u, 'p>(
+pub(crate) fn add_workers<'u>(
     alloc: Global,
-    setting: &Setting<'u, 'p>,
+    setting: &Setting<'u>,
     mut seats: Row<WorkerSeat<Carried<'u>>>,
     units: &mut Row<Unit<'u>>,
     setter: &mut StopSetter,
 ) -> Result<(), NoMemory>
     requires setting { IsSetting setting.now }
-    requires replicated { is_replicated setting.now.region.now.plan setting.now.key.stage ≡ true }
+    requires within { setting.now.key.stage ≤ length setting.now.key.epoch.plan.now.stages }
+    requires replicated { is_replicated setting.now.key.epoch.plan.now setting.now.key.stage ≡ true }
     requires seats { Each (IsUnused setting.now.key) seats }
     ensures count { OnOk result (length units.new ≡ length units.old + length seats.entry) }
     ensures setter { setter.new ≡ setter.old }

@@ -15,9 +15,9 @@ use std::sync::Wait;
 /// What a unit does.
 #[derive(Drop)]
 pub(crate) enum Kind<'p> {
-    Stage(Relay<Carried<'p>, Carried<'p>, Passage<'p>, Staged<'p>>),
-    Worker(Relay<Carried<'p>, Carried<'p>, Tickets<'p>, Staged<'p>>),
-    TryCommit(Relay<Carried<'p>, Judged<'p>, Judging<'p>, Judge<'p>>),
+    Stage(Relay<Carried<'p>, Carried<'p>, Passage<'p>, Staged>),
+    Worker(Relay<Carried<'p>, Carried<'p>, Tickets<'p>, Staged>),
+    TryCommit(Relay<Carried<'p>, Judged<'p>, Judging<'p>, Judge>),
 }
 
 /// A stage, a worker of a replicated one, or the try-commit unit of an epoch.

@@ -22,7 +22,7 @@ pub struct LaneVerdicts<'u> {
     /// What came and isn't given yet.
     told: Told,
     /// Where the batches that were judged are sent back.
-    back: Back,
+    back: Back<'u>,
 }
 
 // By hand, so that a crate above doesn't prove again how all that they hold is dropped.
@@ -51,19 +51,21 @@ impl<'u> Model for LaneVerdicts<'u> {
 
     ghost view = { λ v. coming_on v.end.view v.told.given };
 
-    ghost invariant = { λ v. AwaitsOn v.end.view v.told };
+    ghost invariant = { λ v. AwaitsOn v.end.view v.back.end.view v.told };
 }
 
 impl<'u> LaneVerdicts<'u> {
     ghost use Rattle.std.specs.Prelude.{◌≡◌, ◌+◌, ◌<◌, ℕ, true, MatchOption};
     ghost use Rattle.dp_semantics.specs.EpochVerdicts.{goes_on, verdict_at};
-    ghost use Rattle.dp_judge.specs.Told.{Says, TellsStages};
+    ghost use Rattle.dp_judge.specs.Told.{Says};
     ghost use Rattle.dp_pipeline.specs.Coming.{Comes, coming_on};
+    ghost use Rattle.dp_pipeline.specs.Left.{BackOf};
     ghost use Rattle.dp_pipeline.specs.Standing.{taken_by};
 
     /// Verdicts that come on this end, from which nothing was taken, and no units. Batches that were judged are sent back.
-    pub(crate) fn new(alloc: Global, end: TakeEnd<Judged<'u>>, back: Back) -> LaneVerdicts<'u>
-        requires { taken_by end.view ≡ 0 }
+    pub(crate) fn new(alloc: Global, end: TakeEnd<Judged<'u>>, back: Back<'u>) -> LaneVerdicts<'u>
+        requires none { taken_by end.view ≡ 0 }
+        requires back { BackOf end.view back.end.view }
         ensures { result ≡ coming_on end.entry.view 0 }
     {
         LaneVerdicts {
@@ -117,10 +119,8 @@ impl<'u> LaneVerdicts<'u> {
     /// The verdict on the next iteration. There is none after one that isn't Clean or that closes the region.
     pub fn next<R: Wait + Clock>(&mut self, rt: &R) -> Verdict
         requires { (n : ℕ) → n < self.old.given → goes_on (verdict_at self.old.key n) ≡ true }
-        ensures verdict { Says result (verdict_at self.old.key self.old.given) }
-        ensures stages { TellsStages self.old.tells_stages self.old.key self.old.given result }
+        ensures verdict { Says self.old.key result (verdict_at self.old.key self.old.given) }
         ensures key { self.new.key ≡ self.old.key }
-        ensures tells { self.new.tells_stages ≡ self.old.tells_stages }
         ensures given { self.new.given ≡ self.old.given + 1 }
     {
         'turns: for _ in rt.forever() {

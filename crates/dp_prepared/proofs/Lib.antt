@@ -1,3 +1,1 @@
-pub mod CodeLists
 pub mod Plans
-pub mod Holding

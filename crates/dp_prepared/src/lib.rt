@@ -1,8 +1,6 @@
-//! A region made ready once for all its epochs: the codes of its stages with what is known of their places, and what its
-//! iterations are judged by.
+//! A region made ready once for all its epochs: what its stages and its judge run on.
 #![tactic(auto)]
 
-mod codes;
 mod preparing;
 mod region;
 

@@ -1,10 +1,10 @@
 -- Memories whose cells are copied, cleared and marked.
-use Rattle.dp_semantics.proofs.Names.{◌≡◌, ◌⊎◌, inl, inr, refl, sym, ap, ◌∙◌, arith, ℕ, suc, ◌<◌, ◌≤◌, ◌==◌, ◌&&◌, ◌||◌, if◌then◌else◌, not, Bool, true, false, List, [], ◌∷◌, ◌++◌, ℤ, pos, length, get_or, slice_set, nat_lt, eq-eqb, ne_eqb, cases_Bool, cases_eq, cases_lt, or_parts, both_ways, lt-ltb, le-ltb, length-set, get_or_past, get_or-set_other, get_or-set_at, list_any, list_any-append, VarInfo, is_local_of, clear_locals, Effect, Stored, Printed, Decided, Tried, stored}
+use Rattle.dp_semantics.proofs.Names.{◌≡◌, ◌⊎◌, inl, inr, refl, sym, ap, ◌∙◌, arith, ℕ, ◌≤◌, ◌==◌, ◌&&◌, ◌||◌, if◌then◌else◌, not, Bool, true, false, List, [], ◌∷◌, ◌++◌, ℤ, pos, length, get_or, slice_set, nat_lt, eq-eqb, ne_eqb, cases_Bool, cases_eq, cases_lt, or_parts, both_ways, lt-ltb, length-set, get_or_past, get_or-set_other, get_or-set_at, list_any, list_any-append, VarInfo, is_local_of, clear_locals}
 use Rattle.std.proofs.lemmas.List.{ext_get_or}
 use Rattle.dp_plan.specs.Written.{has}
 use Rattle.dp_semantics.specs.Seen.{is_local_cell}
 use Rattle.dp_view.specs.Marked.{Marked, with_mark}
-use Rattle.dp_view.specs.Memories.{copied, clear_cells, with_cell, local_cells}
+use Rattle.dp_view.specs.Memories.{copied, clear_cells, local_cells}
 
 pub has_parts : (c x : ℕ) (xs : List ℕ) → has c (x ∷ xs) ≡ false → (x ≡ c → ⊥) × (has c xs ≡ false)
 has_parts c x xs e = let r = or_parts (x == c) (has c xs) e in (λ q. both_ways (x == c) r.0 (eq-eqb x c q), r.1)

@@ -1,5 +1,5 @@
 -- What is kept of a run's iterations tells which of them are clean.
-use Rattle.dp_semantics.proofs.Names.{◌≡◌, ◌⊎◌, inl, inr, refl, sym, ap, ◌∙◌, subst, arith, ℕ, zero, suc, ◌+◌, ◌-◌, ◌<◌, ◌≤◌, ◌&&◌, if◌then◌else◌, Bool, true, false, List, [], ◌∷◌, ℤ, pos, length, map, Option, Some, None, and_parts, cases_Bool, cases_eq, Stmt, out-Stmt, Program, Plan, Config, StandsInMain, Event, Effect, stored, followed, value_of, Run, starts, start, iteration, has_ended, is_closing, memory_after, clear_locals, Past, events_since, is_clean, stage_of, CleanSince, memory_of, Follows, applied, effect_in, last, Epoch, is_checked, sum_by-cons, words_at, word_count, get_or}
+use Rattle.dp_semantics.proofs.Names.{◌≡◌, inl, inr, refl, sym, ap, ◌∙◌, subst, arith, ℕ, zero, suc, ◌+◌, ◌-◌, ◌<◌, ◌&&◌, if◌then◌else◌, Bool, true, false, List, [], ◌∷◌, ℤ, pos, length, map, Option, Some, None, cases_eq, Stmt, out-Stmt, Program, Plan, Config, StandsInMain, Event, stored, Run, starts, start, iteration, has_ended, is_closing, memory_after, clear_locals, Past, events_since, is_clean, stage_of, memory_of, Follows, applied, effect_in, last, Epoch, is_checked, sum_by-cons, words_at, word_count, get_or}
 use Rattle.std.proofs.Common.{is_none}
 use Rattle.std.specs.Option.{option_map, option_or}
 use Rattle.dp_base.specs.declared.Cause.{Cause}
@@ -14,14 +14,14 @@ use Rattle.dp_semantics.proofs.Setting.{Accepted, Fit}
 use Rattle.dp_theorem.proofs.Source.{Stands, stands_next, own_site}
 use Rattle.dp_theorem.proofs.Seeing.{Sees}
 use Rattle.dp_theorem.proofs.Lockstep.{Goes, stays, goes}
-use Rattle.dp_theorem.proofs.Epochs.{History, Gone, numbered, past_at, ready}
+use Rattle.dp_theorem.proofs.Epochs.{History, Gone, numbered, ready}
 use Rattle.dp_theorem.proofs.Iterations.{run, iteration_is}
 use Rattle.dp_theorem.proofs.Central.{numbered_is, since_is, earlier_start, history, gone, stores_lead}
 use Rattle.dp_theorem.proofs.Causes.{clean_without_cause}
-use Rattle.dp_theorem.proofs.Watching.{Watches, Walked, walk_is}
+use Rattle.dp_theorem.proofs.Watching.{Watches, walk_is}
 use Rattle.dp_theorem.proofs.WatchInEpoch.{watch_at, watches_at}
 use Rattle.dp_view.specs.Viewed.{Viewed, noticed, after_event, after_all, settled, onward, anew}
-use Rattle.dp_view.specs.Following.{KeptBefore, KeptNext, Tells, ViewsTell, found_or_end}
+use Rattle.dp_view.specs.Following.{KeptBefore, Tells, ViewsTell, found_or_end}
 
 -- ---- the first failure of several events, by what is watched
 

@@ -11,7 +11,7 @@ use Rattle.dp_semantics.specs.EpochCauses.{views_from}
 use Rattle.dp_theorem.proofs.Fitting.{accepted}
 use Rattle.dp_theorem.proofs.Memory.{clear-at, clear-other}
 use Rattle.dp_view.specs.Marked.{Marked, with_effect, none_marked}
-use Rattle.dp_view.specs.Memories.{clear_cells, local_cells, refreshed, shown_by, Neighbours}
+use Rattle.dp_view.specs.Memories.{clear_cells, refreshed, shown_by, Neighbours}
 use Rattle.dp_view.specs.Viewed.{effect_of}
 use Rattle.dp_view.specs.Changed.{Cleared, differs}
 use Rattle.dp_view.specs.Kept.{IsKept}

@@ -7,4 +7,3 @@ pub mod KeptLemmas
 pub mod FollowLemmas
 pub mod WatchLemmas
 pub mod LoadLemmas
-pub mod StoreLemmas

@@ -1,15 +1,19 @@
 -- The events of an iteration load from the memory that the ones before them leave.
-use Rattle.std.proofs.Common.{◌≡◌, refl, ap, true, List, ◌∷◌, ℤ, map, Ok, slice_get}
+use Rattle.std.proofs.Common.{◌≡◌, refl, sym, ap, subst, true, List, ◌∷◌, ℤ, map, Ok, slice_get}
 use Rattle.dp_tree.specs.declared.Stmt.{Stmt, out-Stmt}
 use Rattle.dp_tree.specs.declared.Stmt.TheOpen.{Stmt-F, Call}
 use Rattle.dp_tree.specs.declared.Program.{Program}
 use Rattle.dp_tree.specs.Eval.{WithLoads}
 use Rattle.dp_tree.specs.Step.{Config, Effect, Event, Stepped, after_effect, evaluated}
-use Rattle.dp_tree.specs.Trace.{Run}
+use Rattle.dp_tree.specs.Iteration.{iteration}
+use Rattle.dp_tree.specs.Trace.{Run, run_of}
+use Rattle.dp_plan.specs.declared.Plan.{Plan}
 use Rattle.dp_semantics.specs.LoadedCells.{load_from, loaded_cells}
-use Rattle.dp_semantics.proofs.Setting.{Goes, event_of, goes, stays}
+use Rattle.dp_semantics.proofs.Setting.{Accepted, Goes, event_of, goes, stays}
+use Rattle.dp_theorem.proofs.Iterations.{iteration_is}
 use Rattle.dp_theorem.proofs.LoadedCells.{cells_tell_loads}
 use Rattle.dp_theorem.proofs.Runs.{is_step, run_first, run_step, step_on}
+use Rattle.dp_view.specs.Following.{ViewsFollow}
 use Rattle.dp_view.specs.Heard.{LoadsFrom}
 
 module _ (p : Program) (input : List ℤ) where
@@ -27,3 +31,8 @@ module _ (p : Program) (input : List ℤ) where
   pub goes_loads : {to_do : List Stmt} {cells : List ℤ} {events : List Event} {after : List Stmt} {then_cells : List ℤ} → Goes p input to_do cells events after then_cells → LoadsFrom cells events
   goes_loads stays = tt
   goes_loads (goes {x = x} {rest = rest} {cells = cells} {v = v} e path) = (loads_read x rest cells v e, goes_loads path)
+
+-- Of what is kept where an iteration begins: its source is the memory that the first event loads from.
+pub views_follow : {p : Program} {plan : Plan} → Accepted p plan → ViewsFollow p plan
+views_follow {p = p} {plan = plan} a input fuel c stands e i k here v kept =
+    subst (λ (cells : List ℤ). LoadsFrom cells (iteration (run_of p input fuel c) plan.region i)) (sym kept.source) (goes_loads p input (iteration_is a input fuel c stands i k here).path)

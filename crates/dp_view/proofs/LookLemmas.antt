@@ -1,8 +1,8 @@
 -- What fails of an event, as the definitions have it.
-use Rattle.dp_semantics.proofs.Names.{◌≡◌, ◌⊎◌, inl, inr, refl, sym, ap, ◌∙◌, subst, arith, ℕ, zero, suc, ◌+◌, ◌<◌, ◌≤◌, ◌==◌, ◌&&◌, if◌then◌else◌, Bool, true, false, List, [], ◌∷◌, ℤ, length, length-map, map, get_or, slice_set, nat_le, eq-eqb, ne_eqb, length-set, ◌||◌, Option, Some, None, list_all, Program, Plan, Event, Effect, Stored, Printed, Tried, stored, stage_of, is_checked, as_assumed, goes_as, stays_late, event_words, words_at}
+use Rattle.dp_semantics.proofs.Names.{◌≡◌, refl, sym, ap, ◌∙◌, arith, ℕ, zero, suc, ◌+◌, ◌<◌, ◌&&◌, if◌then◌else◌, Bool, true, false, List, [], ◌∷◌, ℤ, length, length-map, map, get_or, slice_set, nat_le, eq-eqb, ne_eqb, length-set, ◌||◌, Option, Some, None, list_all, Program, Plan, Event, Effect, Stored, Printed, Tried, stored, stage_of, is_checked, as_assumed, goes_as, stays_late, event_words, words_at}
 use Rattle.std.specs.Option.{option_map, option_or}
 use Rattle.dp_tree.specs.declared.Assume.{Assume}
-use Rattle.dp_semantics.specs.Cause.{Cause as Failure, ByWords, assumption_cause}
+use Rattle.dp_semantics.specs.Cause.{Cause as Failure, assumption_cause}
 use Rattle.dp_semantics.specs.CauseWalk.{Watch, shown_from, counted_from, watched, count_of, view_of, cause_in, checked_cause_in, words_cause_in}
 use Rattle.dp_semantics.specs.LoadedCells.{load_from}
 use Rattle.dp_view.specs.Memories.{shown_by, count_more}

@@ -1,7 +1,6 @@
 -- The memories of all stages, changed place by place.
-use Rattle.dp_semantics.proofs.Names.{◌≡◌, ◌⊎◌, inl, inr, refl, sym, ap, ◌∙◌, arith, ℕ, zero, suc, ◌+◌, ◌-◌, ◌<◌, ◌≤◌, if◌then◌else◌, Bool, true, false, List, [], ◌∷◌, ℤ, pos, length, map, take, drop, ◌++◌, take-append_seam, get_or, slice_set, nat_le, nat_lt, le-leb, lt-leb, cases_Bool, cases_lt, cases_eq, both_ways, length-map, length-set, get_or_past, get_or-set_other, get_or-set_at, Plan, is_replicated, Effect, stored}
+use Rattle.dp_semantics.proofs.Names.{◌≡◌, inl, inr, refl, sym, ap, ◌∙◌, arith, ℕ, zero, suc, ◌+◌, ◌-◌, ◌<◌, ◌≤◌, if◌then◌else◌, Bool, true, false, List, [], ◌∷◌, ℤ, pos, length, map, take, drop, ◌++◌, take-append_seam, get_or, slice_set, nat_le, cases_Bool, cases_lt, cases_eq, length-set, get_or-set_other, get_or-set_at, Plan, is_replicated, Effect, stored}
 use Rattle.std.proofs.lemmas.List.{ext_get_or, set-get_or, set-set, get_or-map}
-use Rattle.dp_plan.specs.Written.{has}
 use Rattle.dp_semantics.specs.EpochCauses.{views_from}
 use Rattle.dp_view.specs.Memories.{copied, shown_by, Neighbours, SameBut}
 use Rattle.dp_view.proofs.CellLemmas.{copied_same}

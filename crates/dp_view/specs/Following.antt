@@ -1,24 +1,21 @@
 -- What is kept of a run's iterations tells which of them are clean, and why the others aren't.
-use Rattle.std.specs.Prelude.{◌≡◌, ℕ, suc, ◌-◌, ◌≤◌, ◌&&◌, true, false, is_none, List, ℤ, Option, None, Some, if◌then◌else◌, filter_map}
-use Rattle.std.specs.Option.{option_map}
+use Rattle.std.specs.Prelude.{◌≡◌, ℕ, suc, ◌-◌, ◌≤◌, ◌&&◌, true, false, is_none, List, ℤ, Option, None, Some, if◌then◌else◌}
 use Rattle.dp_base.specs.declared.Cause.{Cause}
 use Rattle.dp_base.specs.declared.End.{End}
 use Rattle.dp_tree.specs.declared.Program.{Program}
-use Rattle.dp_tree.specs.Step.{Config, Event}
+use Rattle.dp_tree.specs.Step.{Config}
 use Rattle.dp_tree.specs.Trace.{Run, run_of}
 use Rattle.dp_tree.specs.InMain.{StandsInMain}
 use Rattle.dp_tree.specs.Iteration.{start, iteration, has_ended, is_closing, memory_after}
 use Rattle.dp_plan.specs.declared.Plan.{Plan}
-use Rattle.dp_plan.specs.Access.{stage_of}
 use Rattle.dp_semantics.specs.Cause.{cause_since, end_cause}
 use Rattle.dp_semantics.specs.Clean.{is_clean}
 use Rattle.dp_semantics.specs.Recovery.{epoch}
 use Rattle.dp_semantics.specs.FindsCauses.{watch_before}
 use Rattle.dp_semantics.specs.Reported.{reported}
-use Rattle.dp_semantics.specs.Told.{store_made, stores_of}
 use Rattle.dp_semantics.specs.Verdict.{CleanSince, memory_of}
 use Rattle.dp_view.specs.Heard.{LoadsFrom}
-use Rattle.dp_view.specs.Viewed.{Viewed, after_all, after_stores, settled, onward, anew}
+use Rattle.dp_view.specs.Viewed.{Viewed, after_all, settled, onward, anew}
 
 -- This is kept where iteration i of the run begins, in the epoch that began at e.
 pub record KeptBefore (p : Program) (plan : Plan) (run : Run) (e i : ℕ) (v : Viewed) : Type 0 where
@@ -41,14 +38,6 @@ abbrev pub found_or_end : Option Cause → End → Cause
 found_or_end (Some cause) end = cause
 found_or_end None end = reported (end_cause end)
 
--- the stage of the event's site, where it is a store
-abbrev pub stage_of_store : Program → Plan → Event → Option ℕ
-stage_of_store p plan event = option_map (λ _. stage_of p plan event.site) (store_made event.effect)
-
--- .. of each event that is one, in order
-abbrev pub stages_of : Program → Plan → List Event → List ℕ
-stages_of p plan events = filter_map (stage_of_store p plan) events
-
 -- Behind the iteration's events it is known whether it is clean, and its cause where it isn't; and where the next one begins that is kept of it.
 pub record Tells (p : Program) (plan : Plan) (run : Run) (e i : ℕ) (v : Viewed) : Type 0 where
   pub clean : is_clean p plan run e i ≡ (has_ended run plan.region i && is_none v.found)
@@ -62,13 +51,7 @@ abbrev pub ViewsTell : Program → Plan → Type 0
 ViewsTell p plan = (input : List ℤ) (fuel : ℕ) (c : Config) → StandsInMain p c → (e i k : ℕ) → start (run_of p input fuel c) plan.region i ≡ Some k → (v : Viewed) → KeptBefore p plan (run_of p input fuel c) e i v →
     Tells p plan (run_of p input fuel c) e i (after_all (iteration (run_of p input fuel c) plan.region i) v)
 
--- Its events load from the memory that the ones before them leave. Where it is clean, its stores and the stages of their sites lead to the same where the next one begins.
-pub record Follows (p : Program) (plan : Plan) (run : Run) (e i : ℕ) (v : Viewed) : Type 0 where
-  pub loads : LoadsFrom v.source (iteration run plan.region i)
-  pub stores : is_clean p plan run e i ≡ true →
-      onward (settled (after_stores (stores_of (iteration run plan.region i)) (stages_of p plan (iteration run plan.region i)) v)) ≡ onward (settled (after_all (iteration run plan.region i) v))
-
--- .. of what is kept where an iteration begins
+-- Of what is kept where an iteration of such a run begins, its events load from the memory that the ones before them leave.
 abbrev pub ViewsFollow : Program → Plan → Type 0
 ViewsFollow p plan = (input : List ℤ) (fuel : ℕ) (c : Config) → StandsInMain p c → (e i k : ℕ) → start (run_of p input fuel c) plan.region i ≡ Some k → (v : Viewed) → KeptBefore p plan (run_of p input fuel c) e i v →
-    Follows p plan (run_of p input fuel c) e i v
+    LoadsFrom v.source (iteration (run_of p input fuel c) plan.region i)

@@ -1,5 +1,5 @@
 -- What is copied and cleared of memories that are kept alike.
-use Rattle.std.specs.Prelude.{◌≡◌, ℕ, zero, suc, ◌+◌, ◌-◌, ◌<◌, if◌then◌else◌, Bool, true, false, List, [], ◌∷◌, length, ℤ, pos, nat_le, slice_set, get_or}
+use Rattle.std.specs.Prelude.{◌≡◌, ℕ, zero, suc, ◌+◌, ◌<◌, if◌then◌else◌, Bool, true, false, List, [], ◌∷◌, length, ℤ, pos, nat_le, slice_set, get_or}
 use Rattle.dp_tree.specs.declared.VarInfo.{VarInfo}
 use Rattle.dp_tree.specs.Step.{Effect, is_local_of, stored}
 use Rattle.dp_plan.specs.declared.Plan.{Plan}

@@ -2,7 +2,6 @@
 use Rattle.std.specs.Prelude.{ℕ, ◌+◌, if◌then◌else◌, List, [], ◌∷◌, ℤ, length, map, Option, Some, None, nat_le}
 use Rattle.std.specs.Option.{option_map, option_or}
 use Rattle.dp_base.specs.declared.SiteId.{SiteId}
-use Rattle.dp_base.specs.declared.StoreOf.{StoreOf}
 use Rattle.dp_base.specs.declared.Cause.{Cause}
 use Rattle.dp_base.specs.declared.Cause.TheVariants.{Load}
 use Rattle.dp_tree.specs.declared.Program.{Program}
@@ -16,7 +15,6 @@ use Rattle.dp_semantics.specs.Cause.{Cause as Failure, ByWords, assumption_cause
 use Rattle.dp_semantics.specs.CauseWalk.{Watch, cause_in, checked_cause_in, view_of, watched, next_watch, first_watch}
 use Rattle.dp_semantics.specs.LoadedCells.{load_from}
 use Rattle.dp_semantics.specs.Reported.{reported}
-use Rattle.dp_view.specs.Memories.{shown_by}
 
 -- `watch` is what each stage sees, and how many words it has in this iteration; it is kept until something of the iteration fails.
 -- `source` is the source's memory, and `before` what that was where the iteration began. `found` is the iteration's first failure.
@@ -75,22 +73,6 @@ after_event event v = noticed v.found event v
 abbrev pub after_all : List Event → Viewed → Viewed
 after_all [] v = v
 after_all (event ∷ rest) v = after_all rest (after_event event v)
-
--- what a store of a clean iteration does
-abbrev pub store_effect : StoreOf → event.Effect
-store_effect s = event.Stored s.cell.0 s.value
-
--- after a store of a clean iteration, at a site of this stage; the numbers of words aren't kept
-abbrev pub after_store : StoreOf → ℕ → Viewed → Viewed
-after_store s stage v = record v {
-  watch = record { views = shown_by stage (store_effect s) 1 v.watch.views; counts = v.watch.counts };
-  source = stored (store_effect s) v.source;
-}
-
--- after several, each at a site of the stage beside it
-abbrev pub after_stores : List StoreOf → List ℕ → Viewed → Viewed
-after_stores (s ∷ rest) (stage ∷ stages) v = after_stores rest stages (after_store s stage v)
-after_stores _ _ v = v
 
 -- the iteration is over: its body locals read 0
 abbrev pub settled : Viewed → Viewed

@@ -7,8 +7,8 @@ use dp_plan::Plan;
 use dp_tree::Program;
 
 /// In each run that begins within `main`, what is kept behind an iteration's events tells whether the iteration is clean in its
-/// epoch, and its cause where it isn't, and is what the next iteration begins with. Of a clean one its stores and their stages
-/// are enough.
+/// epoch, and its cause where it isn't, and is what the next iteration begins with. The
+/// events load from the memory that is kept.
 pub fn views_tell(p: &Program, plan: &Plan)
     requires { fits_plan p.now plan.now ≡ true }
     ensures tell { ViewsTell p.now plan.now }

@@ -15,7 +15,6 @@ ghost use Rattle.dp_view.specs.Viewed as definition;
 ghost use Rattle.dp_view.specs.Changed.{Cleared, differs};
 
 mod onward;
-mod storing;
 
 use crate::changed::put_changes;
 use crate::looking::{as_assumed, first_of, loads_cause, too_many};

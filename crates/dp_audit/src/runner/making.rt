@@ -72,13 +72,14 @@ where
     /// Commits an iteration behind which the epoch goes on.
     fn go_on(&mut self, verdicts: LaneVerdicts<'s>, clean: Clean) -> Result<Group, NoMemory>
         requires judged { (p : Tree) × (plan : PlanValue) × (input : List ℤ) × (first : MachineState) × Judged p plan input first self.old verdicts clean }
-        requires going { clean.carried.closing ≡ false }
+        requires going { clean.closing ≡ false }
         ensures made { IfOk result (λ group. (p : Tree) (plan : PlanValue) (input : List ℤ) (first : MachineState) →
             Judged p plan input first self.old verdicts.entry clean → Makes p plan input first self.old.ledger.committed self.new group) }
     {
         let number = self.ledger.committed.count();
         let stored = cells_of(self.epochs.alloc, clean.stores())?;
-        self.ledger.commit(clean, &mut Tally::new(Unwatched))?;
+        self.ledger
+            .commit(self.epochs.alloc, clean, &mut Tally::new(Unwatched))?;
         let cells = self.ledger.committed.cells();
         let sets = self.known.changes_among(self.epochs.alloc, cells, stored)?;
         self.verdicts = Some(verdicts);
@@ -88,12 +89,13 @@ where
     /// Commits the closing iteration.
     fn close(&mut self, clean: Clean) -> Result<Group, NoMemory>
         requires judged { (p : Tree) × (plan : PlanValue) × (input : List ℤ) × (first : MachineState) × (v : Coming) × Judged p plan input first self.old v clean }
-        requires closing { clean.carried.closing ≡ true }
+        requires closing { clean.closing ≡ true }
         ensures made { IfOk result (λ group. (p : Tree) (plan : PlanValue) (input : List ℤ) (first : MachineState) (v : Coming) →
             Judged p plan input first self.old v clean → Makes p plan input first self.old.ledger.committed self.new group) }
     {
         let number = self.ledger.committed.count();
-        self.ledger.commit(clean, &mut Tally::new(Unwatched))?;
+        self.ledger
+            .commit(self.epochs.alloc, clean, &mut Tally::new(Unwatched))?;
         let cells = self.ledger.committed.cells();
         let sets = self.known.changes(self.epochs.alloc, cells)?;
         Ok(self.group(number, false, sets, IterEnd::Closed))

@@ -1,4 +1,4 @@
-//! An iteration whose stores are known, made at once.
+//! An iteration of which it is known where it leads, made at once.
 ghost use Rattle.std.specs.Prelude.{◌≡◌, ℕ, List, ℤ, ◌++◌, None};
 ghost use Rattle.dp_tree.specs.Trace.{prints};
 ghost use Rattle.dp_tree.specs.Iteration.{iteration};
@@ -11,8 +11,8 @@ use crate::ends::Part;
 use dp_base::StoreOf;
 
 impl<'p> Machine<'p> {
-    /// Makes the next iteration from what is known of it: its stores in the source's order, its number of steps, and whether
-    /// it leaves the region. The machine then stands where [`Machine::iterate`] brings it by all steps of that iteration.
+    /// Makes the next iteration from what is known of it: stores that lead to the memory where it ends, its number of steps, and
+    /// whether it leaves the region. The machine then stands where [`Machine::iterate`] brings it by all steps of that iteration.
     /// It takes no memory, and leaves a machine that answers `NoMemory` so.
     pub fn skip(&mut self, stores: &[StoreOf], steps: u64, closing: bool)
         requires part { IsAnyRegion (next_part self.old) }

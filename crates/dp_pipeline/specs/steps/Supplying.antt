@@ -1,28 +1,26 @@
--- Packets of which nothing was said yet.
-use Rattle.std.specs.Prelude.{◌≡◌, ℕ, suc, ◌+◌, ◌≤◌, true, [], length, None, min, max, ◌-◌}
-use Rattle.dp_semantics.specs.Packets as packets
-use Rattle.dp_packet.specs.declared.Packet.{Packet}
-use Rattle.dp_packet.specs.Packet.{packet_of, IsUnless}
-use Rattle.dp_pipeline.specs.declared.batch.Batch.{Batch}
-use Rattle.dp_pipeline.specs.Sizes.{EachFrom}
-use Rattle.dp_pipeline.specs.steps.Ending.{is_going_on}
+-- Batches of which nothing was told yet, and those that come back for them.
+use Rattle.std.specs.Prelude.{◌≡◌, ◌+◌, ◌-◌, ℕ, suc, Bool, min, max, IfSome}
+use Rattle.dp_relay.specs.UnitsKey.{UnitsKey}
+use Rattle.dp_lean_region.specs.LeanEpoch.{IsLeanEpoch}
+use Rattle.dp_lean_region.specs.Line.{IsLineOf}
+use Rattle.dp_lean_machine.specs.declared.batch.LeanBatch.{LeanBatch}
+use Rattle.dp_lean_machine.specs.Sent.{IsSent}
+use Rattle.dp_pipeline.specs.declared.supply.Supply.{Supply}
+use Rattle.dp_pipeline.specs.Carried.{lean_of}
+use Rattle.dp_pipeline.specs.Lanes.{ComesBack}
+use Rattle.dp_pipeline.specs.Sizes.{begins, size}
 
-abbrev pub nothing_said : packets.Packet
-nothing_said = record { lists = []; status = packets.Going; version = None }
+-- it gives batches of the epoch
+pub record Supplies (x : Supply) (key : UnitsKey) : Type 0 where
+  pub epoch : IsLeanEpoch (lean_of key)
+  pub line : IsLineOf (lean_of key) x.line
+  pub spares : ComesBack x.spares.view key
+  pub last : IfSome x.last (λ batch. IsLineOf (lean_of key) batch.line)
 
--- an empty packet of this iteration
-pub record IsFresh (iteration : ℕ) (p : Packet) : Type 0 where
-  pub number : p.iteration ≡ iteration
-  pub goes : is_going_on p.status ≡ true
-  pub said : packet_of p ≡ nothing_said
-
--- empty packets of so many iterations from this one on; where memory is wanting for one, it is the last and says so
-pub record IsFreshBatch (iteration size : ℕ) (x : Batch) : Type 0 where
-  pub front : EachFrom IsFresh iteration x.before
-  pub number : x.last.iteration ≡ iteration + length x.before
-  pub said : IsUnless x.last.status (packet_of x.last) nothing_said
-  pub whole : is_going_on x.last.status ≡ true → suc (length x.before) ≡ size
-  pub few : suc (length x.before) ≤ size
+-- It is what comes to stage 1 of each batch of such an epoch that begins with this iteration and may have so many.
+abbrev pub IsSupplied : Supply → ℕ → ℕ → LeanBatch → Type 0
+IsSupplied x first count batch =
+    (key : UnitsKey) (b : ℕ) → Supplies x key → first ≡ key.epoch.first + begins key b → count ≡ size key b → IsSent (lean_of key) 0 b batch
 
 -- how many iterations go together from this one on
 abbrev pub size_at : ℕ → ℕ → ℕ → ℕ → ℕ

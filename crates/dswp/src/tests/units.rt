@@ -1,5 +1,4 @@
-//! The units of one epoch, polled by hand: what a poll answers, that no order of polls changes a verdict, and the stages that a
-//! verdict tells.
+//! The units of one epoch, polled by hand: what a poll answers, and that no order of polls changes a verdict.
 ghost use Rattle.std.specs.Prelude.{◌≡◌, ◌<◌, ◌^◌, ◌-◌, IfOk};
 ghost use Rattle.dp_tree.specs.Inlined.{IsInlined};
 
@@ -23,9 +22,6 @@ use std::time::Clock;
 const PLAN: &[u8] = b"plan 1\nregion 1 words 4096\nseq 2 3 4\npar 5\nseq 6\nend\n";
 
 const WORDS: [i64; 7] = [0, 1, 2, 3, 4, 5, 6];
-
-/// The stages of what an iteration stores: `x` and `i`, then `y`, then an element of `h`.
-const STAGES: [u32; 4] = [1, 1, 2, 3];
 
 /// More polls than the units need in any of the orders.
 const POLLS: u32 = 2_000;
@@ -69,7 +65,6 @@ fn pipeline_of<'u>(
                 base: &base,
                 steps: 0,
                 fuel: 1_000,
-                tells_stages: true,
             };
             Pipeline::new(alloc, region, &WORDS, begin, size, setter)
         }
@@ -77,8 +72,7 @@ fn pipeline_of<'u>(
     }
 }
 
-/// Whether the verdicts on so many iterations are clean and tell the stages of their stores, and the last of them, which stores
-/// nothing, closes the region.
+/// Whether the verdicts on so many iterations are clean, and the last of them, which alone stores nothing, closes the region.
 fn all_clean<R: Wait + Clock>(rt: &R, verdicts: &mut LaneVerdicts<'_>, count: u32) -> bool
     requires { verdicts.old.given ≡ 0 }
 {
@@ -86,9 +80,9 @@ fn all_clean<R: Wait + Clock>(rt: &R, verdicts: &mut LaneVerdicts<'_>, count: u3
         match verdicts.next(rt) {
             Verdict::Clean(clean) => {
                 if clean.closing() {
-                    return place + 1 == count && clean.stages().is_empty();
+                    return place + 1 == count && clean.stores().is_empty();
                 }
-                if clean.stages() != STAGES.as_slice() {
+                if clean.stores().is_empty() {
                     return false;
                 }
             }

@@ -1,6 +1,6 @@
 use Rattle.std.proofs.Common.{◌∙◌}
 use Rattle.dp_epoch.proofs.EpochBegins.{sound_here}
-use Rattle.dp_crew.proofs.EpochRuns.{begins_here, ran_here, tells_here, unbegun}
+use Rattle.dp_crew.proofs.EpochRuns.{begins_here, ran_here, unbegun}
 use Rattle.dp_crew.proofs.begun.run_one_epoch.Goals as goal
 
 pub pipeline_here-requires-clause-sound : goal.pipeline_here-requires-clause-sound
@@ -10,9 +10,6 @@ pub run_epoch-end-requires-clause-epoch : goal.run_epoch-end-requires-clause-epo
 run_epoch-end-requires-clause-epoch g c κs within =
     let first = c.requires.epoch.0 in
     (first, begins_here c.args.work.region.now.program c.args.work.region.now.plan c.args.work.input.now c.args.ledger _ (c.polling-polled.ensures ∙ c.in_ok-units.ensures.verdicts) first c.requires.epoch.1)
-
-pub run_epoch-end-requires-clause-stages : goal.run_epoch-end-requires-clause-stages
-run_epoch-end-requires-clause-stages g c κs within = tells_here c.args.work.region.now.program c.args.work.region.now.plan c.args.work.input.now c.args.ledger _ (c.polling-polled.ensures ∙ c.in_ok-units.ensures.verdicts)
 
 pub returns-in_err-setter : goal.returns-in_err-setter
 returns-in_err-setter g c = record { ran = unbegun _ _ _ c.from_residual.result _ _ _ c.from_residual.ensures.1 }

@@ -3,7 +3,6 @@ use Rattle.dp_base.specs.declared.RegionReport.{RegionReport}
 use Rattle.dp_semantics.specs.EpochKey.{EpochKey}
 use Rattle.dp_pipeline.specs.Coming.{Coming}
 use Rattle.dp_epoch.specs.declared.taken.Taken.{Taken}
-use Rattle.dp_epoch.specs.Accounts.{TellsEnough}
 use Rattle.dp_epoch.specs.InEpoch.{InEpoch}
 use Rattle.dp_epoch.specs.Taken.{Takes}
 use Rattle.dp_epoch.proofs.EpochLemmas.{report_here}
@@ -19,9 +18,6 @@ take-requires-clause-epoch g c =
       subst (λ (v : Coming). InEpoch v.key v.given first c.verdicts.ledger.committed c.verdicts.ledger.account) (sym c.await_one.ensures)
           (subst (λ (k : EpochKey). InEpoch k c.verdicts.verdicts.given first c.verdicts.ledger.committed c.verdicts.ledger.account) (sym c.verdicts.invariant.key) (c.verdicts.invariant.epoch first c.requires.epoch.1)),
     )
-
-pub take-requires-clause-stages : goal.take-requires-clause-stages
-take-requires-clause-stages g c = subst (λ (v : Coming). TellsEnough v.tells_stages c.verdicts.ledger.account) (sym c.await_one.ensures) c.verdicts.invariant.stages
 
 pub returns-in_err-taken-clause-ran : goal.returns-in_err-taken-clause-ran
 returns-in_err-taken-clause-ran g c =
@@ -56,7 +52,6 @@ verdicts-preserved g c =
       room = t.room;
       report = t.report ∙ ap (λ (x : RegionReport). record x { iterations = c.take.new.ledger.committed.count }) c.verdicts.invariant.report;
       why = t.why ∙ c.verdicts.invariant.why;
-      stages = λ some. c.in_ok-taken.ensures.tells ∙ ap (λ (v : Coming). v.tells_stages) c.await_one.ensures ∙ c.verdicts.invariant.stages (sym t.watched ∙ some);
       emits = λ first e. emits_on _ _ _ _ _ _ (c.verdicts.invariant.emits first e)
           (emits_taken _ _ first _ _ _ _ _ t (c.verdicts.invariant.epoch first e) _ _ _ c.in_ok-flush_if_many.ensures.streams);
       faults = c.in_ok-flush_if_many.ensures.faults ∙ c.verdicts.invariant.faults;
@@ -111,7 +106,6 @@ verdicts-init g c = record {
   room = c.requires.room;
   report = report_here _ _ _ _ _ c.requires.epoch.1;
   why = refl;
-  stages = c.requires.stages;
   emits = λ first e. emits_nothing _ _;
   faults = refl;
 }

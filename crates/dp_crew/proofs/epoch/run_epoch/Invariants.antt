@@ -1,6 +1,5 @@
 use Rattle.std.proofs.Common.{◌≡◌, ◌≤◌, ◌+◌}
 use Rattle.dp_meaning.specs.MachineState.{MachineState}
-use Rattle.dp_epoch.specs.Accounts.{TellsEnough}
 use Rattle.dp_epoch.specs.Applied.{HasRoom, left_of}
 use Rattle.dp_epoch.specs.InEpoch.{InEpoch}
 use Rattle.dp_epoch.specs.Prints.{to_come}
@@ -17,7 +16,6 @@ invariant-verdicts g l = record {
   room : HasRoom l.tally l.ledger.committed;
   report : l.ledger.account.report ≡ record l.fn.ledger.account.report { iterations = l.ledger.committed.count };
   why : l.ledger.account.why ≡ l.fn.ledger.account.why;
-  stages : TellsEnough l.verdicts.tells_stages l.ledger.account;
   emits : (first : MachineState) → InEpoch l.fn.verdicts.key l.fn.verdicts.given first l.fn.ledger.committed l.fn.ledger.account →
       Emits (to_come l.fn.verdicts.key.plan first l.fn.ledger.waiting l.fn.ledger.committed.count) (to_come l.fn.verdicts.key.plan first l.ledger.waiting l.ledger.committed.count)
       (g.K.Sink.written l.fn.sink) (g.K.Sink.written l.sink);

@@ -1,25 +1,22 @@
 -- What each verdict leads to.
-use Rattle.std.proofs.Common.{◌≡◌, refl, sym, ap, ◌∙◌, append-nil, arith, is_some, true, if◌then◌else◌, [], Bool}
+use Rattle.std.proofs.Common.{refl, sym, ap, ◌∙◌, append-nil, arith}
 use Rattle.dp_commit.specs.CommittedState.{CommittedState}
-use Rattle.dp_semantics.specs.Judge.{Agreed, Clean}
-use Rattle.dp_semantics.specs.EpochVerdicts.{judgement_of}
-use Rattle.dp_judge.specs.Stages.{store_stages}
 use Rattle.dp_epoch.specs.declared.account.Account.{Account}
-use Rattle.dp_epoch.proofs.EpochLemmas.{closes_ahead, epoch_closes, epoch_goes, goes_ahead, left_falls, left_here, may_commit, report_here, still_seen, unclean_here, waits}
+use Rattle.dp_epoch.proofs.EpochLemmas.{closes_ahead, epoch_closes, epoch_goes, goes_ahead, left_falls, left_here, may_commit, report_here, unclean_here, waits}
 use Rattle.dp_epoch.proofs.taken.take.Goals as goal
 
 pub next-requires : goal.next-requires
 next-requires g c n h = c.requires.epoch.1.gone n h
 
-pub commit-requires-clause-open : goal.commit-requires-clause-open
-commit-requires-clause-open g c = c.requires.epoch.1.progress.is_open
+pub commit-requires-clause-stands : goal.commit-requires-clause-stands
+commit-requires-clause-stands g c = let e = c.requires.epoch in (_, e.0, e.1.progress)
 
 pub commit-requires-clause-next : goal.commit-requires-clause-next
-commit-requires-clause-next g c = may_commit _ _ _ _ _ c.requires.epoch.1 c.in-Clean.clean.carried c.in-Clean.ensures.verdict
+commit-requires-clause-next g c = may_commit _ _ _ _ _ c.requires.epoch.1 c.in-Clean.clean c.in-Clean.ensures.verdict
 
 pub commit-requires-clause-tally : goal.commit-requires-clause-tally
 commit-requires-clause-tally g c =
-    let some = left_here _ _ _ _ _ c.requires.epoch.1 c.in-Clean.clean.carried c.in-Clean.ensures.verdict in
+    let some = left_here _ _ _ _ _ c.requires.epoch.1 c.in-Clean.clean c.in-Clean.ensures.verdict in
     let room = c.requires.room in
     omega (arith, some, room)
 
@@ -29,18 +26,17 @@ returns-then-closing-clause-taken g c =
     let clean = c.in-Clean.clean in
     let closing = sym c.closing-closing.ensures ∙ c.if-closing.true in
     let done = c.in_ok-commit-in-Clean.ensures in
-    let less = left_falls clean.carried c.args.ledger.now.committed c.commit.new.self.committed c.requires.epoch.1.progress.is_open done.ok in
+    let less = left_falls clean c.args.ledger.now.committed c.commit.new.self.committed c.requires.epoch.1.progress.is_open done.ok in
     let room = c.requires.room in
     let one = done.tally in
     let counted = ap (λ (s : CommittedState). s.count) done.ok.rest in
     record {
-      stands = λ first e. epoch_closes _ _ first _ _ e clean.carried gives c.commit.new.self.committed done.ok clean refl c.commit.new.self.account done.account closing;
-      prints = λ first e. waits _ _ first _ _ e clean.carried gives c.args.ledger.now.waiting c.commit.new.self.waiting done.waiting;
-      ahead = λ first e. closes_ahead _ _ first _ _ e clean.carried gives c.commit.new.self.committed done.ok c.args.ledger.now.waiting c.commit.new.self.waiting done.waiting closing;
+      stands = λ first e. epoch_closes _ _ first _ _ e clean gives c.commit.new.self.committed done.ok c.commit.new.self.account done.account closing;
+      prints = λ first e. waits _ _ first _ _ e clean gives c.args.ledger.now.waiting c.commit.new.self.waiting done.waiting;
+      ahead = λ first e. closes_ahead _ _ first _ _ e clean gives c.commit.new.self.committed done.ok c.args.ledger.now.waiting c.commit.new.self.waiting done.waiting closing;
       kept = λ e. absurd (cc e);
-      report = ap (λ (a : Account). a.report) done.account;
-      why = ap (λ (a : Account). a.why) done.account;
-      watched = still_seen clean c.args.ledger.now.account c.commit.new.self.account _ done.account;
+      report = ap (λ (a : Account). a.report) done.account.account;
+      why = ap (λ (a : Account). a.why) done.account.account;
       counted = omega (arith, one, counted);
       room = omega (arith, less, room, one);
       left = omega (arith, less);
@@ -53,22 +49,17 @@ returns-else-closing-clause-taken g c =
     let clean = c.in-Clean.clean in
     let going = sym c.closing-closing.ensures ∙ c.if-closing.false in
     let done = c.in_ok-commit-in-Clean.ensures in
-    let less = left_falls clean.carried c.args.ledger.now.committed c.commit.new.self.committed c.requires.epoch.1.progress.is_open done.ok in
+    let less = left_falls clean c.args.ledger.now.committed c.commit.new.self.committed c.requires.epoch.1.progress.is_open done.ok in
     let room = c.requires.room in
     let one = done.tally in
     let counted = ap (λ (s : CommittedState). s.count) done.ok.rest in
-    let key = g.V.Verdicts.key c.args.verdicts.now in
-    let n = g.V.Verdicts.given c.args.verdicts.now in
-    let staged : is_some c.args.ledger.now.account.views ≡ true → (agreed : Agreed) → judgement_of key n ≡ Clean agreed → clean.stages ≡ store_stages key.program key.plan agreed =
-    λ some agreed is. c.in-Clean.ensures.stages agreed is ∙ ap (λ (b : Bool). if b then store_stages key.program key.plan agreed else []) (c.requires.stages some) in
     record {
-      stands = λ first e. epoch_goes _ _ first _ _ e clean.carried gives c.commit.new.self.committed done.ok clean refl c.commit.new.self.account done.account staged going;
-      prints = λ first e. waits _ _ first _ _ e clean.carried gives c.args.ledger.now.waiting c.commit.new.self.waiting done.waiting;
-      ahead = λ first e. goes_ahead _ _ first _ _ e clean.carried gives c.commit.new.self.committed done.ok c.args.ledger.now.waiting c.commit.new.self.waiting done.waiting;
+      stands = λ first e. epoch_goes _ _ first _ _ e clean gives c.commit.new.self.committed done.ok c.commit.new.self.account done.account going;
+      prints = λ first e. waits _ _ first _ _ e clean gives c.args.ledger.now.waiting c.commit.new.self.waiting done.waiting;
+      ahead = λ first e. goes_ahead _ _ first _ _ e clean gives c.commit.new.self.committed done.ok c.args.ledger.now.waiting c.commit.new.self.waiting done.waiting;
       kept = λ e. absurd (cc e);
-      report = ap (λ (a : Account). a.report) done.account;
-      why = ap (λ (a : Account). a.why) done.account;
-      watched = still_seen clean c.args.ledger.now.account c.commit.new.self.account _ done.account;
+      report = ap (λ (a : Account). a.report) done.account.account;
+      why = ap (λ (a : Account). a.why) done.account.account;
       counted = omega (arith, one, counted);
       room = omega (arith, less, room, one);
       left = omega (arith, less);
@@ -83,7 +74,6 @@ returns-in-Unclean-clause-taken g c = record {
   kept = λ e. (refl, refl);
   report = report_here _ _ _ _ _ c.requires.epoch.1;
   why = refl;
-  watched = refl;
   counted = refl;
   room = c.requires.room;
   left = omega arith;

@@ -9,9 +9,9 @@ use Rattle.dp_pipeline.proofs.making.pipeline_of.Given as goal
 abbrev pub invariant-loop-setting : goal.invariant-loop-setting
 invariant-loop-setting l =
     IsSetting l.setting × Gives l.source (key_of l.setting.key.epoch) (l.setting.key.stage - 1) 0 × ((source_facts l.source).count ≡ 0) × (l.setting.key.stage ≤ l.stages + 1) × (l.stages ≤ 8)
-    × (l.stages ≡ length l.setting.region.now.plan.stages) × (l.setting.key.epoch ≡ l.fn.setting.key.epoch) × (l.setter ≡ l.fn.setter)
-    × (is_replicated l.setting.region.now.plan l.setting.key.stage ≡ false) × (l.setting.region.now ≡ l.fn.setting.region.now) × (l.setting.size ≡ l.fn.setting.size)
-    × Staffed l.setting.size.workers l.setting.region.now.plan l.setting.key.stage (length l.units)
+    × (l.stages ≡ length l.setting.key.epoch.plan.now.stages) × (l.setting.key.epoch ≡ l.fn.setting.key.epoch) × (l.setter ≡ l.fn.setter)
+    × (is_replicated l.setting.key.epoch.plan.now l.setting.key.stage ≡ false) × (l.setting.size ≡ l.fn.setting.size)
+    × Staffed l.setting.size.workers l.setting.key.epoch.plan.now l.setting.key.stage (length l.units)
 
 abbrev pub decreases-loop-setting : goal.decreases-loop-setting
 decreases-loop-setting l = l.stages + 1 - l.setting.key.stage

@@ -1,8 +1,9 @@
-use Rattle.std.proofs.Common.{sym, ◌∙◌}
+use Rattle.std.proofs.Common.{sym, refl}
+use Rattle.dp_pipeline.specs.Carried.{lean_of}
 use Rattle.dp_pipeline.specs.Keys.{key_of}
 use Rattle.dp_pipeline.proofs.trying.judge_of.Goals as goal
 
-pub returns-clause-judges : goal.returns-clause-judges
-returns-clause-judges c =
+pub returns : goal.returns
+returns c =
     let is = c.requires.setting in
-    c.in_ok-court.ensures.begins (key_of c.args.setting.key.epoch).epoch (is.program ∙ sym c.court-given.ensures.program) (is.plan ∙ sym c.court-given.ensures.plan) (sym c.into_base.ensures) c.court-given.ensures.limit
+    c.new.ensures.begins (lean_of (key_of c.args.setting.key.epoch)) is.lawful.lean is.lawful.judge is.lawful.begins.judge (sym c.into_base.ensures) refl

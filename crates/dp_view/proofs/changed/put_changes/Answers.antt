@@ -1,4 +1,4 @@
-use Rattle.std.proofs.Common.{◌≡◌, sym, ap, ◌∙◌, ◌++◌, append-nil, length, List, ℕ, arith}
+use Rattle.std.proofs.Common.{sym, ◌∙◌, ◌++◌, append-nil, length, List, ℕ, arith}
 use Rattle.std.proofs.lemmas.List.{at_drop_all}
 use Rattle.dp_view.specs.Changed.{differs}
 use Rattle.dp_view.proofs.ChangeLemmas.{found_from, changes_found}

@@ -1,4 +1,4 @@
-use Rattle.std.proofs.Common.{refl, ◌≡◌, sym, ◌∙◌, ap, map, length, List, ℕ, ℤ, arith}
+use Rattle.std.proofs.Common.{◌∙◌, ap, map, length, List, ℕ, ℤ, arith}
 use Rattle.std.proofs.lemmas.List.{length-map}
 use Rattle.dp_view.specs.Memories.{refreshed}
 use Rattle.dp_view.proofs.StageLemmas.{changed-length, changed_all, map_at}

@@ -1,4 +1,4 @@
-use Rattle.std.proofs.Common.{◌≡◌, sym, ◌∙◌, List, ℕ, arith}
+use Rattle.std.proofs.Common.{sym, ◌∙◌, List, ℕ, arith}
 use Rattle.std.proofs.lemmas.List.{at_drop_all}
 use Rattle.dp_view.proofs.StageLemmas.{share_cells, share_is}
 use Rattle.dp_view.proofs.shares.share.Goals as goal

@@ -1,4 +1,4 @@
-use Rattle.std.proofs.Common.{◌≡◌, ◌∙◌, ◌-◌, ap, length, arith}
+use Rattle.std.proofs.Common.{◌∙◌, ◌-◌, ap, length, arith}
 use Rattle.dp_view.proofs.StageLemmas.{shared-length, all_shared}
 use Rattle.dp_view.proofs.shares.share_all.Goals as goal
 

@@ -1,4 +1,4 @@
-use Rattle.std.proofs.Common.{◌≡◌, ◌∙◌, ap, length, arith}
+use Rattle.std.proofs.Common.{◌∙◌, ap, length, arith}
 use Rattle.dp_view.specs.Viewed.{effect_of}
 use Rattle.dp_view.proofs.StageLemmas.{changed-length, shown_at, shown_all}
 use Rattle.dp_view.proofs.shares.show.Goals as goal

@@ -6,6 +6,9 @@ use Rattle.dp_audit.specs.Groups.{Makes}
 use Rattle.dp_audit.proofs.CleanLemmas.{judged_closed, judged_size, may_be}
 use Rattle.dp_audit.proofs.runner.Runner.close.Goals as goal
 
+pub commit-requires-clause-stands : goal.commit-requires-clause-stands
+commit-requires-clause-stands c = let j = c.requires.judged in (_, j.3, j.5.under_way.epoch.progress)
+
 pub commit-requires-clause-next : goal.commit-requires-clause-next
 commit-requires-clause-next c = let j = c.requires.judged in may_be j.0 j.1 j.2 j.3 c.args.self.now j.4 c.args.clean j.5
 

@@ -7,6 +7,9 @@ use Rattle.dp_audit.specs.Groups.{Makes}
 use Rattle.dp_audit.proofs.CleanLemmas.{judged_among, judged_next, judged_size, may_be}
 use Rattle.dp_audit.proofs.runner.Runner.go_on.Goals as goal
 
+pub commit-requires-clause-stands : goal.commit-requires-clause-stands
+commit-requires-clause-stands c = let j = c.requires.judged in (_, j.3, j.4.under_way.epoch.progress)
+
 pub commit-requires-clause-next : goal.commit-requires-clause-next
 commit-requires-clause-next c = let j = c.requires.judged in may_be j.0 j.1 j.2 j.3 c.args.self.now c.args.verdicts c.args.clean j.4
 

@@ -1,3 +1,5 @@
+use denote.Param.Send.{sendable}
+use Rattle.dp_pipeline.proofs.Crossing.{carried_send}
 use Rattle.dp_pipeline.proofs.Ticketed.{with_ticket, has_taken, take_waits}
 use Rattle.dp_pipeline.proofs.tickets.TicketsEndsCarriedCarried.take.Goals as goal
 
@@ -14,3 +16,6 @@ returns-in-Ok-clause-took g c =
 pub returns-in-Err-clause-idle : goal.returns-in-Err-clause-idle
 returns-in-Err-clause-idle g c =
     λ key s place may. take_waits c.draw.new.self c.take.new.self c.in-Err.field-0.word c.in-Err.ensures.busy key s place (c.draw.ensures.ready key s place may)
+
+pub take-requires-send-T : goal.take-requires-send-T
+take-requires-send-T g c κs within = search (carried_send, sendable) depth 60 fits 20000

@@ -1,4 +1,4 @@
-use Rattle.std.proofs.Common.{◌≡◌, sym, ap, ◌∙◌, subst, refl, false, Bool, List, ℕ, [], get_or, length}
+use Rattle.std.proofs.Common.{◌≡◌, sym, ap, ◌∙◌, false, Bool, List, ℕ, get_or, length}
 use Rattle.dp_plan.specs.Written.{has}
 use Rattle.dp_view.specs.Marked.{Marked, none_marked, unset}
 use Rattle.dp_view.proofs.MarkLemmas.{unset-length, unset_none}

@@ -1,4 +1,4 @@
-use Rattle.std.proofs.Common.{◌≡◌, ◌∙◌, ◌==◌}
+use Rattle.std.proofs.Common.{◌∙◌, ◌==◌}
 use Rattle.std.proofs.lemmas.List.Sorted.{IsNonDecreasingBy-from_sort, list_any-IsPermutation}
 use Rattle.dp_view.proofs.marks.Marks.sort.Goals as goal
 

@@ -1,4 +1,4 @@
-use Rattle.std.proofs.Common.{◌≡◌, ◌+◌, ◌++◌, sym, ap, ◌∙◌, replicate, map, take, drop, length, List, ℕ, ℤ, None}
+use Rattle.std.proofs.Common.{◌≡◌, ◌++◌, ap, ◌∙◌, replicate, map, take, drop, length, ℕ, None}
 use Rattle.std.proofs.lemmas.List.{length-map, length-replicate}
 use Rattle.dp_view.specs.Memories.{refreshed}
 use Rattle.dp_view.specs.Viewed.{anew}

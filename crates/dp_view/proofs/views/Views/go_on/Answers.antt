@@ -1,4 +1,4 @@
-use Rattle.std.proofs.Common.{◌≡◌, ◌+◌, ◌++◌, sym, ap, ◌∙◌, replicate, map, take, drop, length, List, [], ℕ, ℤ, None}
+use Rattle.std.proofs.Common.{◌≡◌, ◌++◌, sym, ap, ◌∙◌, map, take, drop, length, [], None}
 use Rattle.std.proofs.lemmas.List.{length-replicate}
 use Rattle.dp_semantics.specs.CauseWalk.{next_from, no_words}
 use Rattle.dp_semantics.specs.EpochCauses.{views_from}

@@ -1,6 +1,5 @@
-use Rattle.std.proofs.Common.{◌≡◌, ◌+◌, ◌++◌, if◌then◌else◌, refl, sym, ap, ◌∙◌, take, drop, length, List, ℕ, ℤ, None, Option}
+use Rattle.std.proofs.Common.{◌≡◌, ◌++◌, refl, sym, ap, ◌∙◌, take, drop, length, List, ℕ, None}
 use Rattle.std.specs.Option.{option_map}
-use Rattle.dp_base.specs.declared.Cause.{Cause}
 use Rattle.dp_tree.specs.Step.{Event}
 use Rattle.dp_plan.specs.Access.{stage_of}
 use Rattle.dp_semantics.specs.CauseWalk.{Watch, cause_in, count_of, counted_from, shown_from}

@@ -1,7 +1,7 @@
-use Rattle.std.proofs.Common.{◌≡◌, sym, ap, ◌∙◌, List, ℕ, ℤ}
+use Rattle.std.proofs.Common.{◌≡◌, ap, ◌∙◌, List, ℕ, ℤ}
 use Rattle.dp_tree.specs.Step.{clear_locals}
 use Rattle.dp_view.specs.Memories.{clear_cells}
-use Rattle.dp_view.specs.Viewed.{Viewed, settled}
+use Rattle.dp_view.specs.Viewed.{settled}
 use Rattle.dp_view.proofs.KeptLemmas.{clears, kept_settled}
 use Rattle.dp_view.proofs.views.Views.settle.Goals as goal
 

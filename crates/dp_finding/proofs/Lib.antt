@@ -1,3 +1,0 @@
-pub mod FindLemmas
-pub mod Here
-pub mod WordsLeft

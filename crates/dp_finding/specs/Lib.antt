@@ -1,3 +1,0 @@
-pub mod FlatJudge
-pub mod Finding
-pub mod Held

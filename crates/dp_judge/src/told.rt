@@ -1,0 +1,210 @@
+//! What is decided of a batch, verdict by verdict.
+ghost use Rattle.std.specs.Prelude.{◌≡◌, ◌++◌, ◌∷◌, [], length, slice_get, ◌≤◌, Some, IfOk, MatchOption, OnErr, OnOk};
+ghost use Rattle.std.specs.List.{list_all};
+ghost use Rattle.dp_judge.specs.Told.{goes_on_behind};
+ghost use Rattle.dp_judge.specs.declared.verdict.Verdict.TheVariants as verdict;
+ghost use Rattle.dp_judge.specs.Decided.{IsNext, cleans, ending, left_to_give};
+ghost use Rattle.dp_judge.specs.steps.Adding.{IsUngiven, carried_by};
+
+use crate::clean::Clean;
+use crate::parts::{is_over, left_from, none_closes, part_of, place_behind};
+use crate::verdict::Verdict;
+use dp_base::StoreOf;
+use dp_room::{NoMemory, Row};
+use std::alloc::Global;
+
+/// How many stores and prints a clean iteration has, how many steps, and whether it leaves the region.
+#[derive(Clone, Copy)]
+pub(crate) struct Part {
+    pub(crate) stores: usize,
+    pub(crate) prints: usize,
+    pub(crate) steps: u64,
+    pub(crate) closing: bool,
+}
+
+/// What stands behind the clean iterations.
+#[derive(Clone, Copy)]
+pub(crate) enum ToldEnd {
+    Over,
+    /// One that is to be executed again.
+    Unclean,
+    /// Memory was wanting.
+    NoMemory,
+}
+
+/// The verdicts on a batch: the stores and prints of all clean iterations, one behind the other, and how many are each one's.
+pub struct ToldBatch {
+    alloc: Global,
+    stores: Row<StoreOf>,
+    prints: Row<i64>,
+    parts: Row<Part>,
+    end: ToldEnd,
+    /// How many clean iterations were given.
+    given: usize,
+    /// Where the stores and the prints of the next one begin.
+    stores_given: usize,
+    prints_given: usize,
+}
+
+// By hand, so that a crate above doesn't prove again how its rows are dropped.
+impl Drop for ToldBatch {
+    fn drop(self) {
+        let ToldBatch {
+            alloc: _,
+            stores: _,
+            prints: _,
+            parts: _,
+            end: _,
+            given: _,
+            stores_given: _,
+            prints_given: _,
+        } = self;
+    }
+}
+
+impl ToldBatch {
+    /// No verdict. It takes no memory until there is one.
+    pub fn new(alloc: Global) -> ToldBatch
+        ensures left { left_to_give result ≡ [] }
+    {
+        ToldBatch {
+            alloc,
+            stores: Row::new(alloc),
+            prints: Row::new(alloc),
+            parts: Row::new(alloc),
+            end: ToldEnd::Over,
+            given: 0,
+            stores_given: 0,
+            prints_given: 0,
+        }
+    }
+
+    /// No verdict again. The room stays.
+    pub(crate) fn clear(&mut self)
+        ensures cleans { cleans self.new ≡ [] }
+        ensures left { left_to_give self.new ≡ [] }
+        ensures ungiven { IsUngiven self.new }
+    {
+        self.stores.clear();
+        self.prints.clear();
+        self.parts.clear();
+        self.end = ToldEnd::Over;
+        self.given = 0;
+        self.stores_given = 0;
+        self.prints_given = 0;
+    }
+
+    /// One clean iteration more.
+    pub(crate) fn add(
+        &mut self,
+        stores: &[StoreOf],
+        prints: &[i64],
+        steps: u64,
+        closing: bool,
+    ) -> Result<(), NoMemory>
+        requires { IsUngiven self.old }
+        ensures ungiven { OnOk result (IsUngiven self.new) }
+        ensures more { OnOk result (cleans self.new ≡ cleans self.old
+            ++ verdict.Clean (record { stores = stores.now; prints = prints.now; steps = steps; closing = closing }) ∷ []) }
+        ensures same { OnErr result (cleans self.new ≡ cleans self.old) }
+    {
+        self.stores.extend_from_slice(stores)?;
+        self.prints.extend_from_slice(prints)?;
+        self.parts.push(Part {
+            stores: stores.len(),
+            prints: prints.len(),
+            steps,
+            closing,
+        })?;
+        Ok(())
+    }
+
+    /// This stands behind the clean iterations.
+    pub(crate) fn end_with(&mut self, end: ToldEnd)
+        ensures cleans { cleans self.new ≡ cleans self.old }
+        ensures left { left_to_give self.new ≡ cleans self.old ++ ending end }
+    {
+        self.end = end;
+    }
+
+    /// The epoch goes on behind each verdict that wasn't given yet.
+    pub fn goes_on(&self) -> bool
+        ensures { result ≡ list_all goes_on_behind (left_to_give self.now) }
+    {
+        let stays = none_closes(left_from(self.parts.as_slice(), self.given));
+        let over = is_over(self.end);
+        stays && over
+    }
+
+    /// What is carried of the next clean iteration.
+    fn carried(&self, part: Part) -> Result<Clean, NoMemory>
+        ensures { IfOk result (λ v. v ≡ carried_by self.now part) }
+    {
+        let stores = part_of(self.stores.as_slice(), self.stores_given, part.stores);
+        let prints = part_of(self.prints.as_slice(), self.prints_given, part.prints);
+        let stores = Row::from_slice(self.alloc, stores)?;
+        let prints = Row::from_slice(self.alloc, prints)?;
+        Ok(Clean::agree(stores, prints, part.steps, part.closing))
+    }
+
+    /// The next one is given.
+    fn pass(&mut self, part: Part)
+        requires { slice_get self.old.parts self.old.given ≡ Some part }
+        ensures next { cleans self.old ≡ verdict.Clean (carried_by self.old part) ∷ cleans self.new }
+        ensures end { self.new.end ≡ self.old.end }
+    {
+        let parts = self.parts.len();
+        let stores = self.stores.len();
+        let prints = self.prints.len();
+        let given = place_behind(self.given, 1, parts);
+        let stores_given = place_behind(self.stores_given, part.stores, stores);
+        let prints_given = place_behind(self.prints_given, part.prints, prints);
+        self.given = given;
+        self.stores_given = stores_given;
+        self.prints_given = prints_given;
+    }
+
+    /// The next verdict, on the clean iteration of this part.
+    fn next_clean(&mut self, part: Part) -> Verdict
+        requires { slice_get self.old.parts self.old.given ≡ Some part }
+        ensures { IsNext self.old self.new result }
+    {
+        match self.carried(part) {
+            Ok(clean) => {
+                self.pass(part);
+                Verdict::Clean(clean)
+            }
+            Err(_) => {
+                self.clear();
+                Verdict::NoMemory
+            }
+        }
+    }
+
+    /// The verdict behind those that are clean, if there is one.
+    fn next_end(&mut self) -> Option<Verdict>
+        requires { length self.old.parts ≤ self.old.given }
+        ensures { MatchOption result ((left_to_give self.old ≡ []) × (left_to_give self.new ≡ [])) (λ v. IsNext self.old self.new v) }
+    {
+        let end = self.end;
+        self.end = ToldEnd::Over;
+        match end {
+            ToldEnd::Over => None,
+            ToldEnd::Unclean => Some(Verdict::Unclean),
+            ToldEnd::NoMemory => Some(Verdict::NoMemory),
+        }
+    }
+
+    /// The next verdict. Where memory is wanting for it, nothing follows.
+    pub fn next(&mut self) -> Option<Verdict>
+        ensures { MatchOption result ((left_to_give self.old ≡ []) × (left_to_give self.new ≡ [])) (λ v. IsNext self.old self.new v) }
+    {
+        match self.parts.get(self.given) {
+            Some(part) => {
+                let part = *part;
+                Some(self.next_clean(part))
+            }
+            None => self.next_end(),
+        }
+    }
+}

@@ -1,0 +1,200 @@
+//! A batch, run by a stage.
+ghost use Rattle.std.specs.Prelude.{◌≡◌, ◌<◌, ℕ, suc, map, get_or, [], true, length, IfSome};
+ghost use Rattle.dp_plan.specs.Access.{is_replicated};
+ghost use Rattle.dp_net.specs.NetPackets.{NetStatus};
+ghost use Rattle.dp_lean_epoch.specs.Coming.{LeanStands};
+ghost use Rattle.dp_lean_epoch.specs.LeanBatch.{IsVersion};
+ghost use Rattle.dp_lean_region.specs.LeanEpoch.{LeanEpoch, marks_in, begin_in};
+ghost use Rattle.dp_lean_region.specs.Line.{IsLineOf, RunsIn, line_kinds};
+ghost use Rattle.dp_lean_region.specs.Ready.{CanRead, HasLocals, IsStageReady};
+ghost use Rattle.dp_lean_machine.specs.Held.{kinds_in};
+ghost use Rattle.dp_lean_machine.specs.Sent.{AsStatus, IsSent};
+ghost use Rattle.dp_lean_machine.specs.Within.{IsCame, Comes, IsDone};
+ghost use Rattle.dp_lean_machine.specs.RanFrom.{RanFrom};
+
+use crate::desk::{Desk, cleared, keep_rooms, readers_of};
+use crate::turning::{Ran, run_all};
+use crate::{BatchStatus, LeanBatch, StageColumns};
+use dp_base::Row;
+use dp_columns::ReaderRoom;
+use dp_engine::Memory;
+use dp_lean_region::{Line, ReadyStage};
+use dp_lean_turn::{Teller, Turn};
+use dp_memory::Version;
+use std::alloc::Global;
+
+/// What came of a batch's iterations, and what they were run on.
+#[derive(Drop)]
+pub(crate) struct Done<M: Drop> {
+    pub(crate) ran: Ran,
+    pub(crate) desk: Desk,
+    pub(crate) memory: M,
+}
+
+/// Memory was wanting before the first iteration.
+const NONE: Ran = Ran {
+    iterations: 0,
+    status: BatchStatus::NoMemory,
+};
+
+/// What the turns of a batch leave.
+fn left<'c, M: Memory + Drop>(
+    turn: Turn<'c, M>,
+    steps: Row<u32>,
+    rooms: Row<ReaderRoom>,
+    ran: Ran,
+) -> Done<M>
+    ensures ran { result.ran ≡ ran }
+    ensures memory { result.memory ≡ turn.entry.memory }
+    ensures own { result.desk.own ≡ record { columns = turn.entry.teller.own; steps = steps } }
+{
+    let mut rooms = rooms;
+    let Turn {
+        memory,
+        readers,
+        teller,
+        ..
+    } = turn;
+    keep_rooms(readers, &mut rooms);
+    let Teller {
+        own: columns,
+        loads,
+        log,
+        ..
+    } = teller;
+    Done {
+        ran,
+        desk: Desk {
+            own: StageColumns { columns, steps },
+            loads,
+            log,
+            rooms,
+        },
+        memory,
+    }
+}
+
+/// The iterations of a batch that came, run over what earlier stages told, into the desk's columns.
+fn run_over<'p, M: Memory + Drop>(
+    alloc: Global,
+    stage: ReadyStage<'p>,
+    earlier: &[StageColumns],
+    desk: Desk,
+    memory: M,
+    came: Ran,
+) -> Done<M>
+    requires can { CanRead stage desk.own.columns.kinds (map kinds_in earlier.now) }
+    requires locals { HasLocals stage }
+    ensures done { (e : LeanEpoch) (s b : ℕ) (ends : NetStatus) → AsStatus came.status ends →
+        IsCame e s b (record { iterations = came.iterations; ends = ends }) → RunsIn e s stage.entry →
+        Comes e s b came.iterations earlier.now → LeanStands (marks_in e) e.key (suc s) (begin_in e b) (M.cells memory) →
+        IsDone e s b M.cells result.ran result.desk.own result.memory }
+    ensures kinds { result.desk.own.columns.kinds ≡ desk.own.columns.kinds }
+{
+    let mut desk = desk;
+    let readers = match readers_of(alloc, earlier, &mut desk.rooms) {
+        Ok(readers) => readers,
+        Err(_) => {
+            return Done {
+                ran: NONE,
+                desk,
+                memory,
+            };
+        }
+    };
+    let Desk {
+        own,
+        loads,
+        log,
+        rooms,
+    } = desk;
+    let StageColumns { columns, mut steps } = cleared(own);
+    let mut turn = Turn {
+        memory,
+        readers,
+        teller: Teller {
+            own: columns,
+            loads,
+            log,
+            used: 0,
+            steps: 0,
+        },
+        place: 0,
+        closing: false,
+    };
+    let ran = run_all(stage, &mut turn, &mut steps, came);
+    left(turn, steps, rooms, ran)
+}
+
+/// A batch that was run, and what it was run on.
+#[derive(Drop)]
+pub(crate) struct Sent<'p, M: Drop> {
+    pub(crate) batch: LeanBatch<'p>,
+    pub(crate) desk: Desk,
+    pub(crate) memory: M,
+}
+
+/// The stage at this place, if it is one of so many.
+fn stage_among<'p>(line: Line<'p>, place: usize, stages: usize) -> Option<ReadyStage<'p>>
+    ensures ready { IfSome result (IsStageReady (line_kinds line.entry) place) }
+    ensures runs { (e : LeanEpoch) → IsLineOf e line.entry → IfSome result (RunsIn e place) }
+    ensures low { IfSome result (λ _. place < stages) }
+{
+    if place < stages {
+        line.stage(place)
+    } else {
+        None
+    }
+}
+
+/// A batch is run by the stage at this place, which begins it with this memory. The version is sent along.
+pub(crate) fn run_batch<'p, M: Memory + Drop>(
+    alloc: Global,
+    place: usize,
+    desk: Desk,
+    memory: M,
+    version: Option<Version>,
+    batch: LeanBatch<'p>,
+) -> Sent<'p, M>
+    ensures sent { (e : LeanEpoch) (b : ℕ) → RanFrom e place b M.cells memory version batch.entry result.batch result.memory }
+{
+    let stage = match stage_among(batch.line, place, batch.stages.len()) {
+        Some(stage) => stage,
+        None => {
+            return Sent {
+                batch: batch.wanting(),
+                desk,
+                memory,
+            };
+        }
+    };
+    let LeanBatch {
+        line,
+        first,
+        iterations,
+        status,
+        mut stages,
+        version: _,
+        room,
+    } = batch;
+    let taken = desk.exchanged(&mut stages, place);
+    let earlier = &stages.as_slice()[..place];
+    let came = Ran { iterations, status };
+    let done = run_over(alloc, stage, earlier, taken, memory, came);
+    let Done { ran, desk, memory } = done;
+    let given = desk.exchanged(&mut stages, place);
+    let batch = LeanBatch {
+        line,
+        first,
+        iterations: ran.iterations,
+        status: ran.status,
+        stages,
+        version,
+        room,
+    };
+    Sent {
+        batch,
+        desk: given,
+        memory,
+    }
+}

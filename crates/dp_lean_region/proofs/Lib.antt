@@ -1,0 +1,10 @@
+pub mod SiteKinds
+pub mod Lawful
+pub mod StoreForms
+pub mod FedBy
+pub mod AllOver
+pub mod Capped
+pub mod Holding
+pub mod SeatKinds
+pub mod ReadCodes
+pub mod EntriesRead

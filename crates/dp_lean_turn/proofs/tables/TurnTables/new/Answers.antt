@@ -1,0 +1,26 @@
+use Rattle.std.proofs.Common.{◌∙◌, sym, ap, ℕ}
+use Rattle.dp_engine.specs.Forms.{forms_of}
+use Rattle.dp_lean_code.specs.Known.{paying_marks}
+use Rattle.dp_lean_turn.proofs.LeanOrder.{blocks_own, values_ordered}
+use Rattle.dp_lean_turn.proofs.tables.TurnTables.new.Goals as goal
+
+pub invariant_of-result : goal.invariant_of-result
+invariant_of-result c =
+    let p = c.args.program.now in let plan = c.args.plan.now in
+    record {
+      made = c.in_ok-forms.ensures.exact ∙ ap forms_of c.as_slice.ensures;
+      ordered = values_ordered p plan c.args.stage (paying_marks p plan) c.in_ok-ops.ops c.args.code.now c.requires.code c.in_ok-ops.ensures;
+      small = c.in_ok-forms.ensures.small;
+    }
+
+pub returns : goal.returns
+returns c =
+    let p = c.args.program.now in let plan = c.args.plan.now in
+    record {
+      ops = c.in_ok-ops.ensures;
+      notes = c.in_ok-notes.ensures.right;
+      finishes = c.in_ok-notes.ensures.finishes;
+      hidden = λ at site here cell.
+          c.in_ok-hidden.ensures plan cell c.requires.known
+          ∙ ap (λ (s : ℕ). (paying_marks p plan).hides s cell) (sym (blocks_own p plan c.args.stage (paying_marks p plan) c.args.code.now c.requires.code at site here));
+    }

@@ -1,4 +1,0 @@
-pub mod Epochs
-pub mod Goes
-pub mod SendLemmas
-pub mod rows

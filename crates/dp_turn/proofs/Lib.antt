@@ -1,3 +1,0 @@
-pub mod OpLemmas
-pub mod TurnLemmas
-pub mod rows

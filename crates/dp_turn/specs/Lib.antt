@@ -1,4 +1,0 @@
-pub mod Ends
-pub mod Engine
-pub mod Prepared
-pub mod Asking
