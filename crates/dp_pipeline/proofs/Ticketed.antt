@@ -1,4 +1,4 @@
--- A worker draws tickets, and takes and gives the packet of each.
+-- A worker draws tickets, and takes and gives the batch of each.
 use Rattle.std.proofs.Common.{arith, ◌≡◌, ◌<◌, ◌≤◌, ℕ, ◌+◌, ◌-◌, ◌^◌, Bool, true, false, Option, IfSome, sym, ap, ◌∙◌, subst, refl}
 use Rattle.dp_relay.specs.UnitsKey.{UnitsKey}
 use Rattle.dp_ring.specs.declared.view.Standing.{Standing}
@@ -41,7 +41,7 @@ has_drawn old new ticket is least key s place may =
       fuel = may.fuel;
     }
 
--- a worker with a ticket has taken its packet
+-- a worker with a ticket has taken its batch
 pub has_taken : (old : Tickets) (new : Standing LaneKey) (x : Carried) → old.has_ticket ≡ true
     → IfSome old.seat.view.key (λ (k : LaneKey). IsCarried (key_of k.epoch) (k.stage - 1) old.seat.view.at x) → new.view ≡ after_take (served old.seat)
     → (key : UnitsKey) (s : ℕ) (place : Option ℕ) → MayTake old key s place
@@ -81,7 +81,7 @@ take_waits old new word busy key s place may = record {
   fuel = may.fuel;
 }
 
--- it may give what it made of the packet
+-- it may give what it made of the batch
 pub may_give : (ends : Tickets) (x : Carried) (key : UnitsKey) (s : ℕ) (place : Option ℕ) (n : ℕ) → HasTaken ends key s place n → IsCarried key s n x
     → (ends.seat.view.phase ≡ Giving) × IfSome ends.seat.view.key (λ (k : LaneKey). IsCarried (key_of k.epoch) k.stage ends.seat.view.at x)
 may_give ends x key s place n has is = (

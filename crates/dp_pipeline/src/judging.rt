@@ -7,7 +7,7 @@ use dp_lane::SendEnd;
 use dp_relay::{Ends, IdleWhy, Refused};
 use std::sync::Wait;
 
-/// Packets come from a source, and verdicts go to the commit unit.
+/// Batches come from a source, and verdicts go to the commit unit.
 #[derive(Drop)]
 pub struct Judging<'p> {
     pub(crate) source: Source<'p>,

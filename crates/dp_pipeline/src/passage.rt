@@ -1,4 +1,4 @@
-//! The ends of a stage that takes its packets in order.
+//! The ends of a stage that takes its batches in order.
 
 use crate::carried::Carried;
 use crate::source::Source;
@@ -6,7 +6,7 @@ use crate::target::Target;
 use dp_relay::{Ends, IdleWhy, Refused};
 use std::sync::Wait;
 
-/// Packets come from a source, and go on in order.
+/// Batches come from a source, and go on in order.
 #[derive(Drop)]
 pub struct Passage<'p> {
     pub(crate) source: Source<'p>,

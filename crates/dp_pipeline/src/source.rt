@@ -24,7 +24,7 @@ impl<'p> Source<'p> {
     ghost use Rattle.dp_relay.specs.Facts.{Takes};
     ghost use Rattle.dp_pipeline.specs.Standing.{Gives, source_facts};
 
-    /// Takes the next packet.
+    /// Takes the next batch.
     pub(crate) fn take<R: Wait>(&mut self, rt: &R) -> Result<Carried<'p>, IdleWhy>
         ensures took { IfOk result (λ item. (key : UnitsKey) (s n : ℕ) → Gives self.old key s n → IsCarried key s n item × Gives self.new key s (n + 1)) }
         ensures idle { OnErr result ((key : UnitsKey) (s n : ℕ) → Gives self.old key s n → Gives self.new key s n) }

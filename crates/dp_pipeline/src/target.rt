@@ -1,4 +1,4 @@
-//! Where a unit sends packets.
+//! Where a unit sends batches.
 ghost use Rattle.std.specs.Prelude.{◌≡◌, ◌+◌, ℕ, IfErr, OnOk, OnErr};
 
 use crate::carried::Carried;
@@ -7,7 +7,7 @@ use dp_relay::{IdleWhy, Refused};
 use dp_ring::{ProducerSeat, PutBusy};
 use std::sync::Wait;
 
-/// Where a unit sends packets.
+/// Where a unit sends batches.
 #[derive(Drop)]
 pub enum Target<'p> {
     Lane(SendEnd<Carried<'p>>),
@@ -21,7 +21,7 @@ impl<'p> Target<'p> {
     ghost use Rattle.dp_relay.specs.Facts.{Sends};
     ghost use Rattle.dp_pipeline.specs.Standing.{Gets, target_facts, target_ended};
 
-    /// Sends the next packet, or gives it back.
+    /// Sends the next batch, or gives it back.
     pub(crate) fn send<R: Wait>(
         &mut self,
         rt: &R,

@@ -6,11 +6,11 @@ use dp_relay::{Ends, IdleWhy, Refused};
 use dp_ring::{Busy, PutBusy, WorkerSeat};
 use std::sync::Wait;
 
-/// Packets come out of a ring and go back into it, each by a ticket.
+/// Batches come out of a ring and go back into it, each by a ticket.
 #[derive(Drop)]
 pub struct Tickets<'p> {
     pub(crate) seat: WorkerSeat<Carried<'p>>,
-    /// A ticket was drawn, and its packet isn't given yet.
+    /// A ticket was drawn, and its batch isn't given yet.
     pub(crate) has_ticket: bool,
 }
 
