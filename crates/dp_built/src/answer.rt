@@ -5,7 +5,7 @@ use dp_drive::drive;
 use dp_edge::{OpenGate, Shelf};
 use dp_messages::{Kept, Line, Shown, tell};
 use dp_run::{NativeCode, Tally};
-use dp_system::{FileShelf, OutSink, OwnText};
+use dp_system::{FileShelf, OutSink, OwnText, keep_freed_memory};
 use std::alloc::AllocGlobal;
 use std::io::{ErrorKind, IsTerminal};
 use std::rt::{Clock, Env, Files};
@@ -61,6 +61,7 @@ where
     requires files { S.faults files.old < 2 ^ 64 - 1 }
     requires files_again { S.faults files_again.old < 2 ^ 64 - 1 }
 {
+    keep_freed_memory(rt.alloc());
     let shown = Shown::new(errors);
     let mut output = Kept::new(rt.alloc(), OutSink::new(rt), &shown);
     let progress = Line::new(rt.alloc(), rt, &shown, is_watched(rt, errors));

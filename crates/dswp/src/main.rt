@@ -9,7 +9,7 @@ use dp_drive::drive;
 use dp_edge::OpenGate;
 use dp_messages::{Kept, Line, Shown, tell};
 use dp_run::{NoNativeCode, Tally};
-use dp_system::{FileShelf, OutSink};
+use dp_system::{FileShelf, OutSink, keep_freed_memory};
 use std::io::{ErrorKind, IsTerminal};
 use std::process::ExitCode;
 use std::{env, io};
@@ -17,6 +17,7 @@ use std::{env, io};
 const OUT_OF_MEMORY: u8 = 7;
 
 fn main(rt: HostRuntime) -> ExitCode {
+    keep_freed_memory(rt.alloc());
     let words = match given_words(&rt) {
         Ok(words) => words,
         Err(error) if error.kind() == ErrorKind::OutOfMemory => return ExitCode::from(
