@@ -3,4 +3,4 @@
 
 mod law;
 
-pub use law::clean_iterations_are_alike;
+pub use law::{clean_iterations_are_alike, one_stage_runs_for};
