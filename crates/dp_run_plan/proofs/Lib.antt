@@ -1,3 +1,6 @@
 pub mod Alike
 pub mod OneStage
 pub mod OneStageValid
+pub mod Prepared
+pub mod Same
+pub mod Tables
