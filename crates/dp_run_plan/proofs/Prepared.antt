@@ -1,5 +1,5 @@
 -- The other plan at a place is one under which the region of that place may be run.
-use Rattle.std.proofs.Common.{◌≡◌, refl, sym, ap, ◌∙◌, subst, ℕ, zero, suc, ◌+◌, ◌++◌, ◌≤◌, Bool, true, false, ◌&&◌, if◌then◌else◌, List, [], ◌∷◌, map, length, nat_lt, Option, Some, None, slice_get, inl, inr, arith, drop, length-append}
+use Rattle.std.proofs.Common.{◌≡◌, refl, sym, ap, ◌∙◌, subst, ℕ, zero, suc, ◌+◌, ◌++◌, ◌≤◌, Bool, true, ◌&&◌, List, [], ◌∷◌, map, length, nat_lt, Option, Some, None, slice_get, inl, inr, arith, drop, length-append}
 use Rattle.std.proofs.lemmas.List.{length-map, length-drop}
 use Rattle.std.specs.Option.{option_map}
 use Rattle.std.proofs.lemmas.Bool.{and_parts, cases_Bool}
@@ -8,7 +8,7 @@ use Rattle.dp_tree.specs.Inlined.{IsInlined}
 use Rattle.dp_plan.specs.declared.Plan.{Plan}
 use Rattle.dp_plan.specs.Each.{Each}
 use Rattle.dp_plan.specs.GivenPlans.{IsPlan}
-use Rattle.dp_prepared.specs.Planned.{IsPlanned, prepared_of}
+use Rattle.dp_prepared.specs.Planned.{prepared_of}
 use Rattle.dp_prepared.proofs.Plans.{planned}
 use Rattle.dp_run_plan.specs.Others.{HasOther, MayRunAs, checks_nothing, entry_of, other_of, others_of}
 use Rattle.dp_run_plan.specs.RunPlan.{hides_nothing, one_stage}

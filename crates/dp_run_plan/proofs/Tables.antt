@@ -1,5 +1,5 @@
 -- A plan's table says yes of no site exactly where no site of the region is checked.
-use Rattle.dp_semantics.proofs.Names.{◌≡◌, refl, sym, ap, ◌∙◌, subst, ℕ, zero, suc, ◌+◌, Bool, not, ◌||◌, List, [], ◌∷◌, map, length, arith, list_any, Program, Plan, Access, first_site, is_checked, region_accesses}
+use Rattle.dp_semantics.proofs.Names.{◌≡◌, refl, sym, ap, ◌∙◌, ℕ, suc, ◌+◌, Bool, not, ◌||◌, List, [], ◌∷◌, map, length, arith, list_any, Program, Plan, Access, first_site, is_checked, region_accesses}
 use Rattle.dp_tree.specs.Inlined.{IsInlined}
 use Rattle.dp_tree.specs.Numbering.{numbers_from}
 use Rattle.dp_plan.specs.GivenPlans.{IsPlan}
