@@ -3,6 +3,7 @@
 ghost use Rattle.std.specs.Prelude.{◌≡◌, true};
 ghost use Rattle.dp_tree.specs.Inlined.{IsInlined};
 ghost use Rattle.dp_plan.specs.GivenPlans.{IsPlan};
+ghost use Rattle.dp_run_plan.specs.Others.{checks_nothing};
 ghost use Rattle.dp_run_plan.specs.RunPlan.{hides_nothing, one_stage, RunsFor, CleanAlike, CleanAnywhere};
 
 use dp_plan::Plan;
@@ -24,4 +25,12 @@ pub fn one_stage_runs_for(p: &Program, plan: &Plan)
     ensures is_plan { IsPlan p.now (one_stage plan.now) }
     ensures hides { hides_nothing p.now (one_stage plan.now) ≡ true }
     ensures runs { hides_nothing p.now plan.now ≡ true → RunsFor p.now plan.now (one_stage plan.now) }
+{}
+
+/// The table of a valid plan says yes of no site exactly where nothing is hidden.
+#[tactic(auto, using(crate::proofs::Tables::table_tells))]
+pub fn tables_tell_what_is_hidden(p: &Program, plan: &Plan)
+    requires inlined { IsInlined p.now }
+    requires is_plan { IsPlan p.now plan.now }
+    ensures { checks_nothing plan.now ≡ hides_nothing p.now plan.now }
 {}
