@@ -1,4 +1,5 @@
 pub mod Alike
+pub mod Crossing
 pub mod OneStage
 pub mod OneStageValid
 pub mod Prepared
