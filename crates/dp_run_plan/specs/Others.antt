@@ -3,6 +3,8 @@ use Rattle.std.specs.Prelude.{if◌then◌else◌, ◌≡◌, Bool, not, ◌&&�
 use Rattle.std.specs.List.{list_any}
 use Rattle.dp_tree.specs.declared.Program.{Program}
 use Rattle.dp_plan.specs.declared.Plan.{Plan}
+use Rattle.dp_plan.specs.Each.{Each}
+use Rattle.dp_plan.specs.GivenPlans.{IsPlan}
 use Rattle.dp_prepared.specs.Planned.{IsPlanned, Prepared}
 use Rattle.dp_run_plan.specs.RunPlan.{one_stage, RunsFor}
 
@@ -17,6 +19,17 @@ other_of chooses plan = if chooses && nat_lt 1 (length plan.stages) && checks_no
 -- of each plan
 abbrev pub others_of : Bool → List Plan → List (Option Plan)
 others_of chooses plans = map (other_of chooses) plans
+
+-- other plans of the regions of a program: for each its own one-stage form, where it may be chosen, and plans that may be ones for it
+pub record OtherPlans : Type 0 where
+  pub others : List (Option Plan)
+  pub wholes : List Plan
+
+-- they are other plans of these plans' regions
+pub record AreOthers (p : Program) (plans : List Plan) (o : OtherPlans) : Type 0 where
+  pub chooses : Bool
+  pub others : o.others ≡ others_of chooses plans
+  pub wholes : Each (IsPlan p) o.wholes
 
 -- the entry, if there is one
 abbrev pub entry_of : Option (Option Plan) → Option Plan

@@ -4,6 +4,7 @@
 //! the other one, as long as its iterations are clean and have few steps; and an epoch of the plan itself may begin anywhere.
 #![tactic(auto)]
 
+mod fitting;
 mod law;
 mod making;
 mod plans;

@@ -11,10 +11,11 @@ use dp_tree::Program;
 use std::alloc::Global;
 use std::marker::Model;
 
-/// A region, made ready, and the same region under another plan, if it may be run under one.
+/// A region, made ready, and the same region under other plans that it may be run under, if there are such.
 pub struct RunRegion<'p> {
     region: PreparedRegion<'p>,
     other: Option<PreparedRegion<'p>>,
+    whole: Option<PreparedRegion<'p>>,
 }
 
 // By hand, so that a crate above doesn't prove again how all that a region holds is dropped.
@@ -23,6 +24,7 @@ impl<'p> Drop for RunRegion<'p> {
         let RunRegion {
             region: _,
             other: _,
+            whole: _,
         } = self;
     }
 }
@@ -40,7 +42,7 @@ impl<'p> Model for RunRegion<'p> {
 
     ghost view = { λ r. r.region };
 
-    ghost invariant = { λ r. HasOther r.region r.other };
+    ghost invariant = { λ r. HasOther r.region r.other × HasOther r.region r.whole };
 }
 
 /// The region under the other plan, if there is one.
@@ -63,20 +65,27 @@ fn other_region<'p>(
 }
 
 impl<'p> RunRegion<'p> {
-    /// The region of a plan that is given for the program, and of another one, if there is one.
+    /// The region of a plan that is given for the program, and of other ones, if there are such.
     pub(crate) fn new(
         alloc: Global,
         program: &'p Program,
         plan: &'p Plan,
         other: Option<&'p Plan>,
+        whole: Option<&'p Plan>,
     ) -> Result<RunRegion<'p>, NoMemory>
         requires planned { IsPlanned program.now plan.now }
         requires other { MayRunAs program.now plan.now (option_copied other) }
+        requires whole { MayRunAs program.now plan.now (option_copied whole) }
         ensures { IfOk result (λ r. r ≡ prepared_of program.now plan.now) }
     {
         let other = other_region(alloc, program, plan, other)?;
+        let whole = other_region(alloc, program, plan, whole)?;
         let region = PreparedRegion::new(alloc, program, plan)?;
-        Ok(RunRegion { region, other })
+        Ok(RunRegion {
+            region,
+            other,
+            whole,
+        })
     }
 
     /// The region under its own plan.
@@ -86,11 +95,18 @@ impl<'p> RunRegion<'p> {
         &self.region
     }
 
-    /// The region under another plan, under which it may be run.
+    /// The region under the one-stage form of its plan, under which it may be run.
     pub fn other(&self) -> Option<&PreparedRegion<'p>>
         ensures { IfSome result (λ other. RunsAs self.now other.now) }
     {
         self.other.as_ref()
+    }
+
+    /// The region under a plan that keeps inner loops whole, under which it may be run.
+    pub fn whole(&self) -> Option<&PreparedRegion<'p>>
+        ensures { IfSome result (λ whole. RunsAs self.now whole.now) }
+    {
+        self.whole.as_ref()
     }
 
     /// The program.

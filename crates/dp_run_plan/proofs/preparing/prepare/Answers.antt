@@ -17,9 +17,9 @@ pub new-requires-clause-other : goal.new-requires-clause-other
 new-requires-clause-other c =
     let plans = c.args.plans.now in
     let i = c.loop-plan.plan-index in
-    let chooses = c.requires.others.0 in
+    let chooses = c.requires.others.chooses in
     let at = slice_get_read plans _ i c.plan-item.result refl (omega arith) c.plan-item.is in
     let place : c.len.result ≡ i = c.len.ensures ∙ place_is (prepared_of c.args.program.now) c.loop-plan.regions plans i (omega arith) c.loop-plan.invariant in
     subst (MayRunAs c.args.program.now c.plan-item.result)
-    (sym (c.at-other.ensures ∙ ap (λ (l : List (Option Plan)). entry_of (slice_get l c.len.result)) c.requires.others.1 ∙ ap (λ (j : ℕ). entry_of (slice_get (others_of chooses plans) j)) place))
+    (sym (c.at-other.ensures ∙ ap (λ (l : List (Option Plan)). entry_of (slice_get l c.len.result)) c.requires.others.others ∙ ap (λ (j : ℕ). entry_of (slice_get (others_of chooses plans) j)) place))
     (may_run_at c.args.program.now c.requires.inlined chooses plans i c.plan-item.result c.requires.plans at)
