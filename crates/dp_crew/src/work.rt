@@ -2,7 +2,7 @@
 ghost use Rattle.std.specs.Prelude.{◌≡◌};
 
 use dp_epoch::CrewSize;
-use dp_prepared::PreparedRegion;
+use dp_run_plan::RunRegion;
 use dp_waiting::Bell;
 use std::alloc::Global;
 
@@ -10,7 +10,7 @@ use std::alloc::Global;
 #[derive(Clone, Copy)]
 pub(crate) struct Work<'u, 'p> {
     pub(crate) alloc: Global,
-    pub(crate) region: &'u PreparedRegion<'p>,
+    pub(crate) region: &'u RunRegion<'p>,
     pub(crate) input: &'u [i64],
     pub(crate) size: CrewSize,
     /// One for each unit's thread and one for the caller behind them, or none where the caller is alone.
@@ -20,7 +20,7 @@ pub(crate) struct Work<'u, 'p> {
 impl<'u, 'p> Work<'u, 'p> {
     pub(crate) fn new(
         alloc: Global,
-        region: &'u PreparedRegion<'p>,
+        region: &'u RunRegion<'p>,
         input: &'u [i64],
         size: CrewSize,
         bells: &'u [Bell],
