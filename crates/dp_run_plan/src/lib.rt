@@ -1,0 +1,6 @@
+//! Plans by which a region is run, other than the one by which it is answered: what that one hides from its stages is nothing.
+#![tactic(auto)]
+
+mod law;
+
+pub use law::clean_iterations_are_alike;
