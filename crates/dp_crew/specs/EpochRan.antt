@@ -3,6 +3,7 @@ use Rattle.std.specs.Prelude.{◌≡◌, ℕ, ◌+◌, ◌≤◌, List, Option, 
 use Rattle.dp_plan.specs.declared.Plan.{Plan}
 use Rattle.dp_meaning.specs.MachineState.{MachineState}
 use Rattle.dp_epoch.specs.declared.ends.EpochEnd.{EpochEnd}
+use Rattle.dp_epoch.specs.declared.ends.EpochEnd.TheVariants.{Closed, Unclean, Left}
 use Rattle.dp_edge.specs.declared.writing.WriteFail.{WriteFail}
 use Rattle.dp_epoch.specs.declared.ledger.Ledger.{Ledger}
 use Rattle.dp_epoch.specs.Applied.{HasRoom, left_of}
@@ -11,8 +12,8 @@ use Rattle.dp_epoch.specs.InEpoch.{EpochEnds, left_by_epoch}
 use Rattle.dp_epoch.specs.Prints.{to_come}
 use Rattle.dp_crew.specs.Output.{Streams}
 
--- What an epoch did that this ledger was handed to, in each run of which `begun` holds: how it ended, what was written, what is reported, and what is counted.
-pub record EpochRan (begun : MachineState → Type 0) (plan : Plan) (ledger : Ledger) (result : Result (Ledger × EpochEnd) WriteFail) (faults faults_now : ℕ) (told tells : Option (List ℕ)) (tally tally_now : ℕ) : Type 0 where
+-- What was done where this ledger was handed over, in each run of which `begun` holds: how the region stands, what was written, what is reported, and what is counted.
+pub record HasGone (begun : MachineState → Type 0) (plan : Plan) (ledger : Ledger) (result : Result (Ledger × EpochEnd) WriteFail) (faults faults_now : ℕ) (told tells : Option (List ℕ)) (tally tally_now : ℕ) : Type 0 where
   pub faults_are : FaultsAfter result faults faults_now
   pub ends : IfOk result (λ (r : Ledger × EpochEnd). (first : MachineState) → begun first → EpochEnds plan first r.0.committed r.0.account r.1)
   pub streams : (first : MachineState) → begun first → Streams result (to_come plan first ledger.waiting ledger.committed.count) (λ (r : Ledger × EpochEnd). left_by_epoch plan first r.0.waiting r.0.committed.count r.1) told tells

@@ -1,1 +1,2 @@
 pub mod RunPlan
+pub mod Standin

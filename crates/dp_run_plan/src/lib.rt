@@ -4,3 +4,6 @@
 mod law;
 
 pub use law::clean_iterations_are_alike;
+
+mod standin;
+pub use standin::{RunPlans, RunRegion, prepare};
