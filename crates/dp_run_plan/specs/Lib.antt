@@ -1,2 +1,2 @@
 pub mod RunPlan
-pub mod Standin
+pub mod Others
