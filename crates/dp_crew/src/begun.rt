@@ -53,7 +53,7 @@ fn run_own_epoch<'p, 'v, 'u, E, R: Wait + Clock + Sync, K: Sink, G: Gate, W: Wat
 {
     let mut setter = StopSetter::new(work.alloc)?;
     let (begun, lent) = (&ledger, &mut setter);
-    let may_leave = work.region.has_other();
+    let may_leave = work.may_leave();
     let Pipeline { units, verdicts } = pipeline_here(
         work.alloc,
         work.region.region(),

@@ -1,9 +1,10 @@
 //! Iterations that are committed from the run plan's pipeline, which the caller polls alone.
 ghost use Rattle.std.specs.Prelude.{◌≡◌, ◌<◌, ◌≤◌, ◌-◌, ◌^◌};
 ghost use Rattle.dp_plan.specs.declared.Plan.{Plan};
+ghost use Rattle.dp_run_plan.specs.Others.{RunsAs};
 ghost use Rattle.dp_meaning.specs.MachineState.{MachineState};
 ghost use Rattle.dp_epoch.specs.Applied.{HasRoom};
-ghost use Rattle.dp_epoch.specs.Following.{IsFollowed};
+ghost use Rattle.dp_epoch.specs.Followed.{IsFollowed};
 ghost use Rattle.dp_epoch.specs.InEpoch.{ToBegin};
 ghost use Rattle.dp_crew.specs.EpochRan.{HasFollowed};
 
@@ -36,12 +37,12 @@ pub(crate) fn follow_ahead<'p, 'v, 'u, E, R: Wait + Clock + Sync, K: Sink, G: Ga
     ensures followed { HasFollowed (λ first. ToBegin work.entry.region.now.program work.entry.region.now.plan work.entry.input.now first ledger.entry.committed ledger.entry.account) work.entry.region.now.plan ledger.entry result (K.faults sink.old) (K.faults sink.new) (K.written sink.old) (K.written sink.new) tally.old tally.new }
 {
     match work.region.other() {
-        Some(other) if crew.follows() => follow_epoch(work, other, crew, ledger, sink, tally),
-        Some(_) | None => Ok(ledger),
+        Some(other) => follow_epoch(work, other, crew, ledger, sink, tally),
+        None => Ok(ledger),
     }
 }
 
-/// Follows by the epoch of this other plan of the region that begins behind what is committed.
+/// Follows by the epoch of this other plan of the region that begins behind what is committed, if that is chosen.
 fn follow_epoch<'p, 'v, 'u, E, R: Wait + Clock + Sync, K: Sink, G: Gate, W: Watch>(
     work: Work<'u, '_>,
     other: &'u PreparedRegion<'_>,
@@ -53,10 +54,13 @@ fn follow_epoch<'p, 'v, 'u, E, R: Wait + Clock + Sync, K: Sink, G: Gate, W: Watc
     requires fuel { ledger.committed.machine.fuel ≤ 1000000000 }
     requires sink { K.faults sink.old < 2 ^ 64 - 1 }
     requires epoch { (first : MachineState) × ToBegin work.region.now.program work.region.now.plan work.input.now first ledger.committed ledger.account }
-    requires other { IsOther work.region.now other.now }
+    requires other { RunsAs work.region.now other.now }
     requires room { HasRoom tally.old ledger.committed }
     ensures followed { HasFollowed (λ first. ToBegin work.entry.region.now.program work.entry.region.now.plan work.entry.input.now first ledger.entry.committed ledger.entry.account) work.entry.region.now.plan ledger.entry result (K.faults sink.old) (K.faults sink.new) (K.written sink.old) (K.written sink.new) tally.old tally.new }
 {
+    if !crew.follows() {
+        return Ok(ledger);
+    }
     let mut setter = StopSetter::new(work.alloc)?;
     let (begun, lent) = (&ledger, &mut setter);
     let Pipeline { units, verdicts } =

@@ -1,5 +1,6 @@
 //! What a crew works at.
-ghost use Rattle.std.specs.Prelude.{◌≡◌};
+ghost use Rattle.std.specs.Prelude.{◌≡◌, true};
+ghost use Rattle.dp_run_plan.specs.RunPlan.{hides_nothing};
 
 use dp_epoch::CrewSize;
 use dp_run_plan::RunRegion;
@@ -34,6 +35,16 @@ impl<'u, 'p> Work<'u, 'p> {
             input,
             size,
             bells,
+        }
+    }
+
+    /// Whether an epoch of the region may be left anywhere.
+    pub(crate) fn may_leave(self) -> bool
+        ensures { result ≡ true → hides_nothing self.entry.region.now.program self.entry.region.now.plan ≡ true }
+    {
+        match self.region.other() {
+            Some(_) => true,
+            None => false,
         }
     }
 }
