@@ -1,4 +1,5 @@
-use Rattle.std.proofs.Common.{◌∙◌}
+use Rattle.std.proofs.Common.{◌∙◌, ap}
+use Rattle.dp_plan.specs.declared.Plan.{Plan}
 use Rattle.dp_crew.proofs.EpochRuns.{unbegun}
 use Rattle.dp_crew.proofs.FollowRuns.{follows_here, followed_here, other_sound, unfollowed}
 use Rattle.dp_crew.proofs.following.follow_epoch.Goals as goal
@@ -8,8 +9,21 @@ pipeline_here-requires-clause-sound g c = other_sound _ _ c.requires.other _ c.r
 
 pub follow_verdicts-followed-requires-clause-epoch : goal.follow_verdicts-followed-requires-clause-epoch
 follow_verdicts-followed-requires-clause-epoch g c κs within =
-    let first = c.requires.epoch.0 in
-    (c.args.work.region.now.plan, first, follows_here _ _ c.requires.other _ c.args.ledger _ (c.polling-polled.ensures ∙ c.in_ok-units.ensures.verdicts) first c.requires.epoch.1)
+    let first = c.requires.epoch.0 in (
+      c.args.work.region.now.plan,
+      first,
+      follows_here _ _ c.requires.other c.args.work.input.now c.args.ledger _ (c.polling-polled.ensures ∙ c.in_ok-units.ensures.verdicts) first c.requires.epoch.1,
+      ap (λ (p : Plan). p.words) c.plan.ensures,
+    )
 
-pub returns-default-clause-followed : goal.returns-default-clause-followed
-returns-default-clause-followed g c = unfollowed _ _ _ c.args.ledger _ _ _ c.requires.epoch.0 c.requires.epoch.1 c.requires.room
+pub returns-in-true-clause-followed : goal.returns-in-true-clause-followed
+returns-in-true-clause-followed g c = unfollowed _ _ _ c.args.ledger _ _ _ c.requires.epoch.0 c.requires.epoch.1 c.requires.room
+
+pub returns-in_err-setter-clause-followed : goal.returns-in_err-setter-clause-followed
+returns-in_err-setter-clause-followed g c = unbegun _ _ _ _ _ c.from_residual.result _ _ _ c.from_residual.ensures.1
+
+pub returns-in_err-units-clause-followed : goal.returns-in_err-units-clause-followed
+returns-in_err-units-clause-followed g c = unbegun _ _ _ _ _ c.from_residual-in_err-units.result _ _ _ c.from_residual-in_err-units.ensures.1
+
+pub returns-clause-followed : goal.returns-clause-followed
+returns-clause-followed g c = followed_here _ _ c.requires.other c.args.work.input.now c.args.ledger _ (c.polling-polled.ensures ∙ c.in_ok-units.ensures.verdicts) c.follow_verdicts-followed.result _ _ _ _ _ _ (c.follow_verdicts-followed.ensures c.args.work.region.now.plan (ap (λ (p : Plan). p.words) c.plan.ensures))
