@@ -21,14 +21,14 @@ take-requires-clause-epoch g c =
 
 pub returns-in_err-taken-clause-ran : goal.returns-in_err-taken-clause-ran
 returns-in_err-taken-clause-ran g c =
-    stopped _ _ _ _ _ _ _ _ _ _ c.from_residual.ensures.0
+    stopped _ _ _ _ _ _ _ _ _ _ _ _ c.from_residual.ensures.0
     (failed_so c.from_residual.result _ _ _ _ c.from_residual.ensures.1 refl c.verdicts.invariant.faults)
     (λ first e. emits_stopped _ _ _ _ (c.verdicts.invariant.emits first e))
 
 pub returns-in_err-flush_if_many-clause-ran : goal.returns-in_err-flush_if_many-clause-ran
 returns-in_err-flush_if_many-clause-ran g c =
     let t = subst (λ (k : EpochKey). Takes k c.verdicts.verdicts.given c.verdicts.ledger c.take.new.ledger c.in_ok-taken.taken c.verdicts.tally c.take.new.tally) c.verdicts.invariant.key (subst (λ (v : Coming). Takes v.key v.given c.verdicts.ledger c.take.new.ledger c.in_ok-taken.taken c.verdicts.tally c.take.new.tally) c.await_one.ensures c.in_ok-taken.ensures.taken) in
-    stopped _ _ _ _ _ _ _ _ _ _ c.from_residual-in_err-flush_if_many.ensures.0
+    stopped _ _ _ _ _ _ _ _ _ _ _ _ c.from_residual-in_err-flush_if_many.ensures.0
     (failed_so c.from_residual-in_err-flush_if_many.result _ _ _ _ c.from_residual-in_err-flush_if_many.ensures.1 c.in_err-flush_if_many.ensures.faults c.verdicts.invariant.faults)
     (λ first e. emits_front _ _ _ _ _ (c.verdicts.invariant.emits first e)
     (front_of_taken _ _ first _ _ _ _ _ t (c.verdicts.invariant.epoch first e) _ _ c.in_err-flush_if_many.ensures.streams))
