@@ -41,10 +41,12 @@ pub fn follow<R: Wait + Clock, V: Verdicts, W: Watch>(
 {
     match verdicts.next(rt) {
         Verdict::Clean(clean) => {
-            if clean.closing() {
+            let closing = clean.closing();
+            if closing {
                 return Ok(Followed::Left);
             }
-            if clean.steps() > words as u64 {
+            let steps = clean.steps();
+            if steps > words as u64 {
                 return Ok(Followed::Left);
             }
             ledger.commit(alloc, clean, tally)?;
