@@ -1,17 +1,21 @@
 -- What was done behind a ledger, said of another beginning, and joined; and what stopped early.
-use Rattle.std.proofs.Common.{◌≡◌, ◌∙◌, refl, sym, ap, subst, ℕ, ◌<◌, List, ℤ, Option, Result, Ok, Err, arith}
+use Rattle.std.proofs.Common.{◌≡◌, ◌∙◌, refl, sym, ap, subst, ℕ, ◌<◌, true, List, ℤ, Option, Result, Ok, Err, arith}
 use Rattle.std.specs.Result.{IsErr, IsErrAnd}
 use Rattle.dp_base.specs.declared.RegionReport.{RegionReport}
 use Rattle.dp_tree.specs.declared.Program.{Program}
 use Rattle.dp_plan.specs.declared.Plan.{Plan}
 use Rattle.dp_report.specs.PrintsText.{prints_bytes}
+use Rattle.dp_semantics.specs.EpochKey.{EpochKey}
+use Rattle.dp_run_plan.specs.RunPlan.{hides_nothing}
 use Rattle.dp_meaning.specs.MachineState.{MachineState}
+use Rattle.dp_commit.specs.CommittedState.{CommittedState}
+use Rattle.dp_epoch.specs.declared.account.Account.{Account}
 use Rattle.dp_pipeline.specs.Coming.{Coming}
 use Rattle.dp_epoch.specs.declared.ends.EpochEnd.{EpochEnd}
 use Rattle.dp_edge.specs.declared.writing.WriteFail.{WriteFail}
 use Rattle.dp_edge.specs.declared.writing.WriteFail.TheVariants.{Write, NoMemory}
 use Rattle.dp_epoch.specs.declared.ledger.Ledger.{Ledger}
-use Rattle.dp_epoch.proofs.EpochBegins.{epoch_here}
+use Rattle.dp_epoch.proofs.EpochBegins.{epoch_here, leaves_epoch}
 use Rattle.dp_crew.specs.EpochRan.{EpochRan, HasFollowed, HasRun}
 use Rattle.dp_edge.specs.Writing.{FaultsAfter, WritesFront}
 use Rattle.dp_epoch.specs.InEpoch.{AtEpoch, InEpoch, ToBegin, key_here}
@@ -106,6 +110,10 @@ module _ (begun others : MachineState → Type 0) (plan : Plan) (ledger mid : Le
     room = tt;
     left = tt;
   }
+
+-- Where nothing is hidden from the stages an epoch may be left behind each verdict.
+pub left_anywhere : (key : EpochKey) (n : ℕ) (first : MachineState) (c : CommittedState) (account : Account) → InEpoch key n first c account → hides_nothing key.program key.plan ≡ true → AtEpoch key.plan first c account
+left_anywhere key n first c account e hides = leaves_epoch key n first c account e (ap (λ (p : Program). hides_nothing p key.plan) (sym e.key_is.program) ∙ hides)
 
 -- These are the verdicts of the epoch that begins behind the ledger.
 module _ (p : Program) (plan : Plan) (input : List ℤ) (ledger : Ledger) (verdicts : Coming) (is : verdicts ≡ record { key = key_here p plan input ledger.committed; given = 0 }) where

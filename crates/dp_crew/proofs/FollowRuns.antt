@@ -2,7 +2,6 @@
 use Rattle.std.proofs.Common.{◌≡◌, ◌∙◌, refl, sym, ap, subst, ℕ, true, List, ℤ, Option, Result, Ok, arith}
 use Rattle.dp_base.specs.declared.RegionReport.{RegionReport}
 use Rattle.dp_tree.specs.declared.Program.{Program}
-use Rattle.dp_tree.specs.Step.{clear_locals}
 use Rattle.dp_plan.specs.declared.Plan.{Plan}
 use Rattle.dp_meaning.specs.MachineState.{MachineState}
 use Rattle.dp_semantics.specs.EpochCauses.{IsSound}
@@ -25,7 +24,7 @@ use Rattle.dp_epoch.specs.Progress.{Progress, report_before}
 use Rattle.dp_epoch.specs.Prints.{prints_from, to_come}
 use Rattle.dp_epoch.proofs.Counting.{told_iterations}
 use Rattle.dp_epoch.proofs.EpochBegins.{sound_here}
-use Rattle.dp_epoch.proofs.Following.{begin_following}
+use Rattle.dp_epoch.proofs.OtherEpoch.{follows_here as follows_from, other_begins}
 use Rattle.dp_edge.specs.Writing.{WritesFront}
 use Rattle.dp_report.specs.PrintsText.{prints_bytes}
 use Rattle.dp_crew.specs.EpochRan.{HasFollowed}
@@ -53,24 +52,22 @@ unfollowed p plan input ledger faults told tally first b room = record {
 
 -- The epoch of another plan of the region that begins behind the ledger.
 module _ (region other : Prepared) (as : RunsAs region other) (input : List ℤ) where
+  fits : fits_plan region.program other.plan ≡ true
+  fits = subst (λ (p : Program). fits_plan p other.plan ≡ true) as.0 (given_fits other.program as.1.inlined other.plan as.1.is_plan)
+
   -- .. begins in a memory as the program has it
   pub other_sound : (first : MachineState) (c : CommittedState) (account : Account) → ToBegin region.program region.plan input first c account → IsSound (key_here other.program other.plan input c)
   other_sound first c account b =
-      let here = sound_here region.program region.plan input first c account b in
-      let sound : IsSound (key_here region.program other.plan input c) = record {
-        size = here.size;
-        cleared = subst (λ (r : ℕ). clear_locals r region.program.vars c.machine.config.cells ≡ c.machine.config.cells) (sym as.2.region) here.cleared;
-      } in
-      subst (λ (p : Program). IsSound (key_here p other.plan input c)) (sym as.0) sound
+      subst (λ (p : Program). IsSound (key_here p other.plan input c)) (sym as.0)
+      (sound_here region.program other.plan input first c _ (other_begins region.program region.plan other.plan input first c account b as.2 fits))
 
   -- These are its verdicts.
   module _ (ledger : Ledger) (verdicts : Coming) (is : verdicts ≡ record { key = key_here other.program other.plan input ledger.committed; given = 0 }) where
     pub follows_here : (first : MachineState) → ToBegin region.program region.plan input first ledger.committed ledger.account → IsFollowed region.plan verdicts.key verdicts.given first ledger.committed ledger.account
     follows_here first b =
-        let fits : fits_plan region.program other.plan ≡ true = subst (λ (p : Program). fits_plan p other.plan ≡ true) as.0 (given_fits other.program as.1.inlined other.plan as.1.is_plan) in
         subst (λ (v : Coming). IsFollowed region.plan v.key v.given first ledger.committed ledger.account) (sym is)
         (subst (λ (p : Program). IsFollowed region.plan (key_here p other.plan input ledger.committed) 0 first ledger.committed ledger.account) (sym as.0)
-        (begin_following region.program region.plan other.plan input first ledger.committed ledger.account b as.2 fits))
+        (follows_from region.plan (key_here region.program other.plan input ledger.committed) 0 first ledger.committed ledger.account (record { first = refl; base = refl; steps = refl; fuel = refl; none = refl }) b as.2 fits))
 
     pub followed_here : (r : Result Ledger WriteFail) (faults faults_now : ℕ) (told tells : Option (List ℕ)) (tally tally_now : ℕ) →
         HasFollowed (λ (first : MachineState). IsFollowed region.plan verdicts.key verdicts.given first ledger.committed ledger.account) region.plan ledger r faults faults_now told tells tally tally_now →
