@@ -1,5 +1,5 @@
 -- In the one-stage form of a plan each site of the region is of stage 1 and none is checked.
-use Rattle.dp_semantics.proofs.Names.{◌≡◌, refl, sym, ap, ◌∙◌, inl, inr, ◌⊎◌, ℕ, zero, suc, ◌+◌, ◌-◌, ◌<◌, ◌≤◌, ◌==◌, Bool, true, false, not, ◌&&◌, ◌||◌, if◌then◌else◌, List, [], ◌∷◌, map, length, nat_le, nat_lt, slice_index, arith, le-leb, eq-eqb, ne_eqb, cases_eq, list_any, Program, Plan, Access, stage_of, first_site, stores_var, is_replicated, is_body_local, is_stored_after, is_stored_beside, is_apart, is_apart_between, may_differ, is_checked, is_checked_access, region_accesses}
+use Rattle.dp_semantics.proofs.Names.{◌≡◌, refl, sym, ap, ◌∙◌, inl, inr, ◌⊎◌, ℕ, zero, suc, ◌-◌, ◌<◌, ◌==◌, Bool, true, false, not, ◌&&◌, ◌||◌, if◌then◌else◌, List, [], ◌∷◌, map, length, nat_lt, slice_index, arith, le-leb, ne_eqb, cases_eq, list_any, Program, Plan, Access, stage_of, first_site, stores_var, is_replicated, is_body_local, is_stored_after, is_stored_beside, is_apart, is_apart_between, may_differ, is_checked, is_checked_access, region_accesses}
 use Rattle.std.proofs.lemmas.Bool.{and_left, and_right}
 use Rattle.dp_tree.specs.Inlined.{IsInlined}
 use Rattle.dp_plan.specs.GivenPlans.{IsPlan}

@@ -1,17 +1,16 @@
 -- The one-stage form of a valid plan is a valid plan.
-use Rattle.dp_semantics.proofs.Names.{◌≡◌, refl, sym, ap, ◌∙◌, subst, inl, inr, ℕ, zero, suc, ◌+◌, ◌<◌, ◌≤◌, ◌==◌, Bool, true, false, not, ◌&&◌, if◌then◌else◌, List, [], ◌∷◌, map, filter, length, nat_lt, append-nil, arith, eq-eqb, cases_Bool, ltb-false, le-ltb, None, list_any, flat_map, Program, Plan, stage_of, first_site, is_checked}
+use Rattle.dp_semantics.proofs.Names.{◌≡◌, refl, sym, ap, ◌∙◌, subst, inl, inr, ℕ, zero, suc, ◌≤◌, ◌==◌, Bool, true, false, not, ◌&&◌, if◌then◌else◌, List, [], ◌∷◌, map, filter, length, nat_lt, append-nil, arith, eq-eqb, cases_Bool, ltb-false, le-ltb, None, Program, Plan, stage_of, first_site, is_checked}
 use Rattle.std.proofs.Common.{is_none}
 use Rattle.std.proofs.lemmas.Bool.{ltb-true, or_left, and_left, and_right}
 use Rattle.std.proofs.lemmas.List.{length-map}
 use Rattle.dp_tree.specs.Inlined.{IsInlined}
 use Rattle.dp_tree.specs.Numbering.{numbers_from}
 use Rattle.dp_tree.proofs.NumberLists.{length-numbers_from}
-use Rattle.dp_plan.specs.CheckedTable.{checked_table}
 use Rattle.dp_plan.specs.declared.Enclosing.{Enclosing}
 use Rattle.dp_plan.specs.declared.WrittenPlan.{WrittenPlan}
 use Rattle.dp_plan.specs.Enclosing.{region_ifs, region_inner_whiles}
 use Rattle.dp_plan.specs.GivenPlans.{IsPlan}
-use Rattle.dp_plan.specs.Rules.{assumed_site, comes_late, condition, first_in, is_late_unassumed, occurs_again}
+use Rattle.dp_plan.specs.Rules.{assumed_site, comes_late, first_in, is_late_unassumed, occurs_again}
 use Rattle.dp_plan.specs.Valid.{first_broken}
 use Rattle.dp_plan.specs.Written.{has, listed, region_sites, written_of, written_stage}
 use Rattle.dp_plan.specs.Each.{AscendAbove}
@@ -21,7 +20,7 @@ use Rattle.dp_plan.proofs.Found.{each_has, has_each}
 use Rattle.dp_plan.proofs.RulesHold.{all_listed, ifs_in_time, none_foreign, rightly_assumed, valid_unbroken, whiles_in_time}
 use Rattle.dp_plan.proofs.RulesMet.{Meets, unbroken}
 use Rattle.dp_plan.proofs.SameNumbers.{ascending_once, count}
-use Rattle.dp_semantics.proofs.Each.{Each, each_map, each_both, none_of, none_make}
+use Rattle.dp_semantics.proofs.Each.{Each, each_map, none_of, none_make}
 use Rattle.dp_theorem.proofs.WrittenStages.{stage_listed, stage_unlisted}
 use Rattle.dp_run_plan.specs.RunPlan.{one_stage}
 use Rattle.dp_run_plan.proofs.OneStage.{first_stage, in_text, unchecked}

@@ -1,5 +1,6 @@
 //! The one-stage form of a plan.
-ghost use Rattle.std.specs.Prelude.{◌≡◌, IfOk, false, map};
+ghost use Rattle.std.specs.Prelude.{◌≡◌, IfOk, false, map, not};
+ghost use Rattle.std.specs.List.{list_any};
 ghost use Rattle.dp_tree.specs.Inlined.{IsInlined};
 ghost use Rattle.dp_tree.specs.declared.Program.{Program};
 ghost use Rattle.dp_plan.specs.GivenPlans.{IsPlan};
@@ -10,17 +11,24 @@ use dp_base::{NoMemory, Row};
 use dp_plan::{Plan, StageKind};
 use std::alloc::Global;
 
-/// Whether no site of the region is checked, so that each stage sees what the source has.
-pub fn hides_nothing(plan: &Plan) -> bool
-    ensures table { result ≡ checks_nothing plan.now }
-    ensures given { (p : Program) → IsInlined p → IsPlan p plan.now → result ≡ spec.hides_nothing p plan.now }
+/// Whether the table says yes of none.
+fn says_no(table: &[bool]) -> bool
+    ensures { result ≡ not (list_any (λ checked. checked) table.now) }
 {
-    for checked in plan.checked_at.as_slice() {
+    for checked in table {
         if *checked {
             return false;
         }
     }
     true
+}
+
+/// Whether no site of the region is checked, so that each stage sees what the source has.
+pub fn hides_nothing(plan: &Plan) -> bool
+    ensures table { result ≡ checks_nothing plan.now }
+    ensures given { (p : Program) → IsInlined p → IsPlan p plan.now → result ≡ spec.hides_nothing p plan.now }
+{
+    says_no(plan.checked_at.as_slice())
 }
 
 /// Stage 1 for each of these sites.

@@ -50,7 +50,7 @@ fn other_region<'p>(
     plan: &'p Plan,
     other: Option<&'p Plan>,
 ) -> Result<Option<PreparedRegion<'p>>, NoMemory>
-    requires { MayRunAs program.now plan.now (option_copied other.entry) }
+    requires { MayRunAs program.now plan.now (option_copied other) }
     ensures { IfOk result (λ made. made ≡ option_map (prepared_of program.now) (option_copied other.entry)) }
 {
     match other {
@@ -71,7 +71,7 @@ impl<'p> RunRegion<'p> {
         other: Option<&'p Plan>,
     ) -> Result<RunRegion<'p>, NoMemory>
         requires planned { IsPlanned program.now plan.now }
-        requires other { MayRunAs program.now plan.now (option_copied other.entry) }
+        requires other { MayRunAs program.now plan.now (option_copied other) }
         ensures { IfOk result (λ r. r ≡ prepared_of program.now plan.now) }
     {
         let other = other_region(alloc, program, plan, other)?;
