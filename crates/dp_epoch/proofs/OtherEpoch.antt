@@ -24,7 +24,7 @@ use Rattle.dp_epoch.specs.declared.account.Account.{Account}
 use Rattle.dp_epoch.specs.Accounts.{CountsClean, after_clean}
 use Rattle.dp_epoch.specs.Applied.{Applied, left_of}
 use Rattle.dp_epoch.specs.Followed.{IsFollowed, unlisted}
-use Rattle.dp_epoch.specs.InEpoch.{AtEpoch, BeginsAt, InEpoch, ToBegin, key_here}
+use Rattle.dp_epoch.specs.InEpoch.{AtEpoch, InEpoch, ToBegin, key_here}
 use Rattle.dp_epoch.specs.Prints.{prints_of, to_come}
 use Rattle.dp_epoch.specs.Progress.{Progress}
 use Rattle.dp_epoch.proofs.EpochBegins.{begins_epoch, epoch_here}
@@ -64,12 +64,12 @@ other_begins p plan other input first c account b runs fits = record {
 }
 
 -- .. whose verdicts are followed from here.
-pub follows_here : (plan : Plan) (key : EpochKey) (given : ℕ) (first : MachineState) (c : CommittedState) (account : Account) → BeginsAt key given c → ToBegin key.program plan key.input first c account → RunsFor key.program plan key.plan →
-    fits_plan key.program key.plan ≡ true → IsFollowed plan key given first c account
-follows_here plan key given first c account k b runs fits = record {
+pub begin_following : (p : Program) (plan other : Plan) (input : List ℤ) (first : MachineState) (c : CommittedState) (account : Account) → ToBegin p plan input first c account → RunsFor p plan other → fits_plan p other ≡ true →
+    IsFollowed plan (key_here p other input c) 0 first c account
+begin_following p plan other input first c account b runs fits = record {
   progress = b.at_epoch.progress;
-  runs = subst (λ (q : Program). RunsFor q plan key.plan) (sym b.program_is) runs;
-  other = epoch_here key given first c (unlisted key.plan first c.count) k (other_begins key.program plan key.plan key.input first c account b runs fits);
+  runs = subst (λ (q : Program). RunsFor q plan other) (sym b.program_is) runs;
+  other = epoch_here (key_here p other input c) 0 first c (unlisted other first c.count) (record { first = refl; base = refl; steps = refl; fuel = refl; none = refl }) (other_begins p plan other input first c account b runs fits);
 }
 
 -- .. and it may be left at each iteration.
