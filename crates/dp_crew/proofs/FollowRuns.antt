@@ -8,7 +8,7 @@ use Rattle.dp_semantics.specs.EpochCauses.{IsSound}
 use Rattle.dp_semantics.specs.EpochKey.{EpochKey}
 use Rattle.dp_semantics.specs.Fits.{fits_plan}
 use Rattle.dp_theorem.proofs.GivenFits.{given_fits}
-use Rattle.dp_prepared.specs.Planned.{Prepared}
+use Rattle.dp_prepared.specs.Planned.{IsPlanned, Prepared}
 use Rattle.dp_run_plan.specs.Others.{RunsAs}
 use Rattle.dp_pipeline.specs.Coming.{Coming}
 use Rattle.dp_edge.specs.declared.writing.WriteFail.{WriteFail}
@@ -51,15 +51,15 @@ unfollowed p plan input ledger faults told tally first b room = record {
 }
 
 -- The epoch of another plan of the region that begins behind the ledger.
-module _ (region other : Prepared) (as : RunsAs region other) (input : List ℤ) where
+module _ (region other : Prepared) (as : RunsAs region other) (planned : IsPlanned other.program other.plan) (input : List ℤ) where
   fits : fits_plan region.program other.plan ≡ true
-  fits = subst (λ (p : Program). fits_plan p other.plan ≡ true) as.0 (given_fits other.program as.1.inlined other.plan as.1.is_plan)
+  fits = subst (λ (p : Program). fits_plan p other.plan ≡ true) as.0 (given_fits other.program planned.inlined other.plan planned.is_plan)
 
   -- .. begins in a memory as the program has it
   pub other_sound : (first : MachineState) (c : CommittedState) (account : Account) → ToBegin region.program region.plan input first c account → IsSound (key_here other.program other.plan input c)
   other_sound first c account b =
       subst (λ (p : Program). IsSound (key_here p other.plan input c)) (sym as.0)
-      (sound_here region.program other.plan input first c _ (other_begins region.program region.plan other.plan input first c account b as.2 fits))
+      (sound_here region.program other.plan input first c _ (other_begins region.program region.plan other.plan input first c account b as.1 fits))
 
   -- These are its verdicts.
   module _ (ledger : Ledger) (verdicts : Coming) (is : verdicts ≡ record { key = key_here other.program other.plan input ledger.committed; given = 0 }) where
@@ -67,7 +67,7 @@ module _ (region other : Prepared) (as : RunsAs region other) (input : List ℤ)
     follows_here first b =
         subst (λ (v : Coming). IsFollowed region.plan v.key v.given first ledger.committed ledger.account) (sym is)
         (subst (λ (p : Program). IsFollowed region.plan (key_here p other.plan input ledger.committed) 0 first ledger.committed ledger.account) (sym as.0)
-        (follows_from region.plan (key_here region.program other.plan input ledger.committed) 0 first ledger.committed ledger.account (record { first = refl; base = refl; steps = refl; fuel = refl; none = refl }) b as.2 fits))
+        (follows_from region.plan (key_here region.program other.plan input ledger.committed) 0 first ledger.committed ledger.account (record { first = refl; base = refl; steps = refl; fuel = refl; none = refl }) b as.1 fits))
 
     pub followed_here : (r : Result Ledger WriteFail) (faults faults_now : ℕ) (told tells : Option (List ℕ)) (tally tally_now : ℕ) →
         HasFollowed (λ (first : MachineState). IsFollowed region.plan verdicts.key verdicts.given first ledger.committed ledger.account) region.plan ledger r faults faults_now told tells tally tally_now →

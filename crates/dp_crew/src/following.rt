@@ -1,6 +1,7 @@
 //! Iterations that are committed from the run plan's pipeline, which the caller polls alone.
 ghost use Rattle.std.specs.Prelude.{◌≡◌, ◌<◌, ◌≤◌, ◌-◌, ◌^◌};
 ghost use Rattle.dp_plan.specs.declared.Plan.{Plan};
+ghost use Rattle.dp_prepared.specs.Planned.{IsPlanned};
 ghost use Rattle.dp_run_plan.specs.Others.{RunsAs};
 ghost use Rattle.dp_meaning.specs.MachineState.{MachineState};
 ghost use Rattle.dp_epoch.specs.Applied.{HasRoom};
@@ -61,6 +62,7 @@ fn follow_epoch<'p, 'v, 'u, E, R: Wait + Clock + Sync, K: Sink, G: Gate, W: Watc
     if !crew.follows() {
         return Ok(ledger);
     }
+    is_planned(other);
     let mut setter = StopSetter::new(work.alloc)?;
     let (begun, lent) = (&ledger, &mut setter);
     let Pipeline { units, verdicts } =
@@ -71,6 +73,13 @@ fn follow_epoch<'p, 'v, 'u, E, R: Wait + Clock + Sync, K: Sink, G: Gate, W: Watc
     let followed = follow_verdicts(crew, work.alloc, words, &mut polled, ledger, sink, tally);
     crew.end_following();
     followed
+}
+
+/// The plan of a prepared region is one for its program.
+fn is_planned(region: &PreparedRegion<'_>)
+    ensures { IsPlanned region.now.program region.now.plan }
+{
+    let _number = region.number();
 }
 
 /// Commits iterations as the verdicts of the other plan's epoch come, and lets their prints wait or writes them, as long as

@@ -30,7 +30,7 @@ MayRunAs p plan (Some other) = IsPlanned p other × RunsFor p plan other
 
 -- a region may be run as this one, of the same program
 abbrev pub RunsAs : Prepared → Prepared → Type 0
-RunsAs region other = (other.program ≡ region.program) × IsPlanned other.program other.plan × RunsFor region.program region.plan other.plan
+RunsAs region other = (other.program ≡ region.program) × RunsFor region.program region.plan other.plan
 
 -- .. if there is one
 abbrev pub HasOther : Prepared → Option Prepared → Type 0
