@@ -10,6 +10,7 @@ use Rattle.dp_run_plan.specs.RunPlan.{hides_nothing}
 use Rattle.dp_meaning.specs.MachineState.{MachineState}
 use Rattle.dp_commit.specs.CommittedState.{CommittedState}
 use Rattle.dp_epoch.specs.declared.account.Account.{Account}
+use Rattle.dp_prepared.specs.Planned.{Prepared}
 use Rattle.dp_pipeline.specs.Coming.{Coming}
 use Rattle.dp_epoch.specs.declared.ends.EpochEnd.{EpochEnd}
 use Rattle.dp_edge.specs.declared.writing.WriteFail.{WriteFail}
@@ -114,6 +115,10 @@ module _ (begun others : MachineState → Type 0) (plan : Plan) (ledger mid : Le
 -- Where nothing is hidden from the stages an epoch may be left behind each verdict.
 pub left_anywhere : (key : EpochKey) (n : ℕ) (first : MachineState) (c : CommittedState) (account : Account) → InEpoch key n first c account → hides_nothing key.program key.plan ≡ true → AtEpoch key.plan first c account
 left_anywhere key n first c account e hides = leaves_epoch key n first c account e (ap (λ (p : Program). hides_nothing p key.plan) (sym e.key_is.program) ∙ hides)
+
+-- what comes of the epoch that begins behind what is committed
+abbrev pub coming_here : List ℤ → CommittedState → Prepared → Coming
+coming_here input c r = record { key = key_here r.program r.plan input c; given = 0 }
 
 -- These are the verdicts of the epoch that begins behind the ledger.
 module _ (p : Program) (plan : Plan) (input : List ℤ) (ledger : Ledger) (verdicts : Coming) (is : verdicts ≡ record { key = key_here p plan input ledger.committed; given = 0 }) where

@@ -51,23 +51,23 @@ unfollowed p plan input ledger faults told tally first b room = record {
 }
 
 -- The epoch of another plan of the region that begins behind the ledger.
-module _ (region other : Prepared) (as : RunsAs region other) (planned : IsPlanned other.program other.plan) (input : List ℤ) where
+module _ (region other : Prepared) (beside : RunsAs region other) (planned : IsPlanned other.program other.plan) (input : List ℤ) where
   fits : fits_plan region.program other.plan ≡ true
-  fits = subst (λ (p : Program). fits_plan p other.plan ≡ true) as.0 (given_fits other.program planned.inlined other.plan planned.is_plan)
+  fits = subst (λ (p : Program). fits_plan p other.plan ≡ true) beside.0 (given_fits other.program planned.inlined other.plan planned.is_plan)
 
   -- .. begins in a memory as the program has it
   pub other_sound : (first : MachineState) (c : CommittedState) (account : Account) → ToBegin region.program region.plan input first c account → IsSound (key_here other.program other.plan input c)
   other_sound first c account b =
-      subst (λ (p : Program). IsSound (key_here p other.plan input c)) (sym as.0)
-      (sound_here region.program other.plan input first c _ (other_begins region.program region.plan other.plan input first c account b as.1 fits))
+      subst (λ (p : Program). IsSound (key_here p other.plan input c)) (sym beside.0)
+      (sound_here region.program other.plan input first c _ (other_begins region.program region.plan other.plan input first c account b beside.1 fits))
 
   -- These are its verdicts.
   module _ (ledger : Ledger) (verdicts : Coming) (is : verdicts ≡ record { key = key_here other.program other.plan input ledger.committed; given = 0 }) where
     pub follows_here : (first : MachineState) → ToBegin region.program region.plan input first ledger.committed ledger.account → IsFollowed region.plan verdicts.key verdicts.given first ledger.committed ledger.account
     follows_here first b =
         subst (λ (v : Coming). IsFollowed region.plan v.key v.given first ledger.committed ledger.account) (sym is)
-        (subst (λ (p : Program). IsFollowed region.plan (key_here p other.plan input ledger.committed) 0 first ledger.committed ledger.account) (sym as.0)
-        (follows_from region.plan (key_here region.program other.plan input ledger.committed) 0 first ledger.committed ledger.account (record { first = refl; base = refl; steps = refl; fuel = refl; none = refl }) b as.1 fits))
+        (subst (λ (p : Program). IsFollowed region.plan (key_here p other.plan input ledger.committed) 0 first ledger.committed ledger.account) (sym beside.0)
+        (follows_from region.plan (key_here region.program other.plan input ledger.committed) 0 first ledger.committed ledger.account (record { first = refl; base = refl; steps = refl; fuel = refl; none = refl }) b beside.1 fits))
 
     pub followed_here : (r : Result Ledger WriteFail) (faults faults_now : ℕ) (told tells : Option (List ℕ)) (tally tally_now : ℕ) →
         HasFollowed (λ (first : MachineState). IsFollowed region.plan verdicts.key verdicts.given first ledger.committed ledger.account) region.plan ledger r faults faults_now told tells tally tally_now →

@@ -1,6 +1,7 @@
 //! A program that is ready to be run.
-ghost use Rattle.std.specs.Prelude.{◌≡◌, map, IfOk};
+ghost use Rattle.std.specs.Prelude.{◌≡◌, Bool, map, IfOk};
 ghost use Rattle.dp_prepared.specs.Planned.{prepared_of};
+ghost use Rattle.dp_run_plan.specs.Others.{others_of};
 ghost use Rattle.dp_run.specs.Given.{AreGiven};
 
 use dp_base::{NoMemory, Row};
@@ -50,7 +51,8 @@ impl<'p> PreparedProgram<'p> {
         plans: &'p [Plan],
         others: &'p RunPlans,
     ) -> Result<PreparedProgram<'p>, NoMemory>
-        requires { AreGiven program.now plans.now }
+        requires given { AreGiven program.now plans.now }
+        requires others { (chooses : Bool) × (others.now ≡ others_of chooses plans.now) }
         ensures { IfOk result (λ made. made ≡ record { program = program.now; plans = plans.now }) }
     {
         let regions = prepare(alloc, program, plans, others)?;

@@ -3,7 +3,7 @@ use Rattle.dp_epoch.specs.declared.ends.EpochEnd.{EpochEnd}
 use Rattle.dp_epoch.specs.declared.ledger.Ledger.{Ledger}
 use Rattle.dp_epoch.specs.Applied.{left_of}
 use Rattle.dp_crew.specs.EpochRan.{made_at_least}
-use Rattle.dp_crew.proofs.Answering.{if_ok}
+use Rattle.dp_crew.proofs.Answering.{err_ok, if_ok}
 use Rattle.dp_crew.proofs.EpochRuns.{joined, stops_so}
 use Rattle.dp_crew.proofs.begun.run_one_epoch.Goals as goal
 
@@ -42,3 +42,6 @@ returns-clause-falls g c =
     (λ (r : Ledger × EpochEnd). left_of r.0.committed + made_at_least r.1 ≤ left_of c.in_ok-followed.followed.committed)
     (λ (r : Ledger × EpochEnd). left_of r.0.committed + made_at_least r.1 ≤ left_of c.args.ledger.committed)
     (λ r less. omega (arith, less, left)) c.run_own_epoch.ensures.falls
+
+pub returns-in_err-followed-clause-falls : goal.returns-in_err-followed-clause-falls
+returns-in_err-followed-clause-falls g c = err_ok c.from_residual.result _ c.from_residual.ensures.0

@@ -20,14 +20,14 @@ follow-requires-clause-epoch g c =
       c.requires.epoch.3,
     )
 
-pub returns-in_err-followed-clause-followed : goal.returns-in_err-followed-clause-followed
-returns-in_err-followed-clause-followed g c plan same =
+pub returns-in_err-followed : goal.returns-in_err-followed
+returns-in_err-followed g c plan same =
     stopped _ _ _ _ _ _ _ _ _ _ _ _ c.from_residual.ensures.0
     (failed_so c.from_residual.result _ _ _ _ c.from_residual.ensures.1 refl c.verdicts.invariant.faults)
     (λ first e. emits_stopped _ _ _ _ (c.verdicts.invariant.emits plan first same e))
 
-pub returns-in_err-flush_if_many-clause-followed : goal.returns-in_err-flush_if_many-clause-followed
-returns-in_err-flush_if_many-clause-followed g c plan same =
+pub returns-in_err-flush_if_many : goal.returns-in_err-flush_if_many
+returns-in_err-flush_if_many g c plan same =
     let t = subst (λ (k : EpochKey). Follows c.args.words k c.verdicts.verdicts.given c.verdicts.ledger c.follow.new.ledger c.in_ok-followed.followed c.verdicts.tally c.follow.new.tally) c.verdicts.invariant.key c.in_ok-followed.ensures.followed in
     stopped _ _ _ _ _ _ _ _ _ _ _ _ c.from_residual-in_err-flush_if_many.ensures.0
     (failed_so c.from_residual-in_err-flush_if_many.result _ _ _ _ c.from_residual-in_err-flush_if_many.ensures.1 c.in_err-flush_if_many.ensures.faults c.verdicts.invariant.faults)
@@ -58,8 +58,8 @@ verdicts-preserved g c =
       faults = c.in_ok-flush_if_many.ensures.faults ∙ c.verdicts.invariant.faults;
     }
 
-pub returns-in-Left-clause-followed : goal.returns-in-Left-clause-followed
-returns-in-Left-clause-followed g c plan same =
+pub returns-in-Left : goal.returns-in-Left
+returns-in-Left g c plan same =
     let t = subst (λ (x : Followed). Follows c.args.words c.args.verdicts.now.key c.verdicts.verdicts.given c.verdicts.ledger c.follow.new.ledger x c.verdicts.tally c.follow.new.tally) c.in-Left.is
     (subst (λ (k : EpochKey). Follows c.args.words k c.verdicts.verdicts.given c.verdicts.ledger c.follow.new.ledger c.in_ok-followed.followed c.verdicts.tally c.follow.new.tally) c.verdicts.invariant.key c.in_ok-followed.ensures.followed) in
     let balance = c.verdicts.invariant.tally in
@@ -78,8 +78,8 @@ returns-in-Left-clause-followed g c plan same =
       left = omega (arith, less, left);
     }
 
-pub returns-in-Committed-clause-followed : goal.returns-in-Committed-clause-followed
-returns-in-Committed-clause-followed g c plan same =
+pub returns-then-not-follows_on : goal.returns-then-not-follows_on
+returns-then-not-follows_on g c plan same =
     let t = subst (λ (x : Followed). Follows c.args.words c.args.verdicts.now.key c.verdicts.verdicts.given c.verdicts.ledger c.follow.new.ledger x c.verdicts.tally c.follow.new.tally) c.in-Committed.is
     (subst (λ (k : EpochKey). Follows c.args.words k c.verdicts.verdicts.given c.verdicts.ledger c.follow.new.ledger c.in_ok-followed.followed c.verdicts.tally c.follow.new.tally) c.verdicts.invariant.key c.in_ok-followed.ensures.followed) in
     let balance = c.verdicts.invariant.tally in
