@@ -16,6 +16,7 @@ use dp_load::{Texts, load_texts};
 use dp_logging::{LogOptions, log_program};
 use dp_refusal::end_status;
 use dp_run::{CrewSize, PreparedProgram};
+use dp_run_plan::RunPlans;
 use dp_words::RunWords;
 use std::alloc::Global;
 use std::sync::Wait;
@@ -71,7 +72,8 @@ fn write_log<R: Wait + Clock, K: Sink>(
     };
     let plans = texts.plans.as_slice();
     let input = texts.input.as_slice();
-    let prepared = PreparedProgram::new(alloc, texts.program, plans)?;
+    let others = RunPlans::of(alloc, plans, false)?;
+    let prepared = PreparedProgram::new(alloc, texts.program, plans, &others)?;
     let end = log_program(rt, alloc, &prepared, input, options, sink)?;
     Ok(end_status(end))
 }

@@ -2,7 +2,7 @@
 ghost use Rattle.std.specs.Prelude.{◌≡◌, ◌≤◌, ◌-◌, drop, length, slice_get, take, Some};
 ghost use Rattle.dp_run.specs.Prepared.{AreOf, IsOf, plans_in};
 
-use dp_prepared::PreparedRegion;
+use dp_run_plan::RunRegion;
 use dp_run::PreparedProgram;
 
 /// How many regions there are.
@@ -16,7 +16,7 @@ pub(crate) fn region_count(prepared: &PreparedProgram<'_>) -> usize
 pub(crate) fn region_of<'r, 'p>(
     prepared: &'r PreparedProgram<'p>,
     region: u32,
-) -> &'r PreparedRegion<'p>
+) -> &'r RunRegion<'p>
     requires { (1 ≤ region) × (region ≤ length prepared.now.plans) }
     ensures plan { slice_get prepared.now.plans (region - 1) ≡ Some result.now.plan }
     ensures own { IsOf prepared.now.program result.now }
@@ -29,7 +29,7 @@ pub(crate) fn region_of<'r, 'p>(
 pub(crate) fn regions_before<'r, 'p>(
     prepared: &'r PreparedProgram<'p>,
     count: u32,
-) -> &'r [PreparedRegion<'p>]
+) -> &'r [RunRegion<'p>]
     requires { count ≤ length prepared.now.plans }
     ensures plans { plans_in result.now ≡ take count prepared.now.plans }
     ensures own { AreOf prepared.now.program result.now }
@@ -42,7 +42,7 @@ pub(crate) fn regions_before<'r, 'p>(
 pub(crate) fn regions_behind<'r, 'p>(
     prepared: &'r PreparedProgram<'p>,
     count: u32,
-) -> &'r [PreparedRegion<'p>]
+) -> &'r [RunRegion<'p>]
     requires { count ≤ length prepared.now.plans }
     ensures plans { plans_in result.now ≡ drop count prepared.now.plans }
     ensures own { AreOf prepared.now.program result.now }
