@@ -21,6 +21,15 @@ const LONGEST: u32 = 4_096;
 /// So many nanoseconds a trial may take besides twice the time of following.
 const SLACK: u64 = 100_000;
 
+/// How a region's iterations are followed.
+#[derive(Clone, Copy)]
+pub(crate) enum Way {
+    /// By the one-stage form of its plan, which the caller polls alone.
+    Alone,
+    /// By a plan that keeps inner loops whole, whose units have threads.
+    Together,
+}
+
 /// What is known of a region's speed, and what comes of it: so many iterations are followed, then so many verdicts of the plan
 /// come, and so on. Where the plan's units may have threads, following is timed at first, and the plan is tried behind it.
 #[derive(Drop)]
@@ -64,9 +73,12 @@ impl Choice {
         }
     }
 
-    /// Whether iterations are followed now.
-    pub(crate) fn follows(&self) -> bool {
-        self.to_take == 0
+    /// Whether iterations are followed in this way now.
+    pub(crate) fn follows(&self, way: Way) -> bool {
+        match way {
+            Way::Alone => self.to_take == 0,
+            Way::Together => self.to_take > 1,
+        }
     }
 
     /// Whether the plan is tried now, by the clock.
@@ -161,7 +173,10 @@ impl Choice {
     /// Whether the trial has taken twice the time of following already.
     fn is_slow(&self, now: u64) -> bool {
         let took = now.saturating_sub(self.begun).saturating_sub(SLACK);
-        let limit = self.spent.saturating_mul(u64::from(self.tried)).saturating_mul(2);
+        let limit = self
+            .spent
+            .saturating_mul(u64::from(self.tried))
+            .saturating_mul(2);
         took.saturating_mul(u64::from(self.followed)) > limit
     }
 }

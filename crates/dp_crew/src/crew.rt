@@ -1,7 +1,7 @@
 //! The threads that a region's units are handed to.
 ghost use Rattle.std.specs.Prelude.{◌≡◌, true};
 
-use crate::choosing::Choice;
+use crate::choosing::{Choice, Way};
 use crate::threads::start;
 use crate::trays::{Tray, lay};
 use dp_edge::Gate;
@@ -28,7 +28,7 @@ pub(crate) struct Crew<'s, 'u, E, R, G> {
     alone: Option<usize>,
     /// How many verdicts of the epoch were awaited.
     awaited: u32,
-    /// Whether the region is run by its run plan, where it has one.
+    /// Whether the region is run by a run plan, where it has one.
     choice: Choice,
 }
 
@@ -74,26 +74,49 @@ impl<'s, 'u, E, R: Wait + Clock + Sync, G: Gate> Crew<'s, 'u, E, R, G> {
         self.rt
     }
 
-    /// Whether the region's iterations are to be followed now, if they may be.
-    pub(crate) fn follows(&self) -> bool {
-        self.choice.follows()
+    /// Whether the region's iterations are to be followed in this way now, if they may be.
+    pub(crate) fn follows(&self, way: Way) -> bool {
+        self.choice.follows(way)
     }
 
-    /// An epoch of the run plan begins, which the caller polls alone.
-    pub(crate) fn begin_following(&mut self) {
-        let now = nanoseconds(self.rt);
-        self.choice.begin(now);
+    /// An epoch of a run plan begins.
+    pub(crate) fn begin_following(&mut self, way: Way) {
+        match way {
+            Way::Alone => {
+                let now = nanoseconds(self.rt);
+                self.choice.begin(now);
+            }
+            Way::Together => self.begin(),
+        }
+    }
+
+    /// One more verdict of a run plan's epoch is awaited.
+    pub(crate) fn await_followed(&mut self, way: Way, verdicts: &mut LaneVerdicts<'u>)
+        ensures { verdicts.new ≡ verdicts.old }
+    {
+        match way {
+            Way::Alone => {}
+            Way::Together => self.await_one(verdicts),
+        }
     }
 
     /// One more iteration was followed. Whether the next one is.
-    pub(crate) fn follows_on(&mut self) -> bool {
-        self.choice.follows_on()
+    pub(crate) fn follows_on(&mut self, way: Way) -> bool {
+        match way {
+            Way::Alone => self.choice.follows_on(),
+            Way::Together => self.takes_on(),
+        }
     }
 
-    /// The epoch of the run plan is over.
-    pub(crate) fn end_following(&mut self) {
-        let now = nanoseconds(self.rt);
-        self.choice.end(now);
+    /// The epoch of a run plan is over.
+    pub(crate) fn end_following(&mut self, way: Way, setter: StopSetter) {
+        match way {
+            Way::Alone => {
+                let now = nanoseconds(self.rt);
+                self.choice.end(now);
+            }
+            Way::Together => self.end(setter),
+        }
     }
 
     /// An epoch of the plan begins, and the caller is alone. Where the plan is tried, its units go to the threads at once.

@@ -1,4 +1,4 @@
-//! Iterations that are committed from the run plan's pipeline, which the caller polls alone.
+//! Iterations that are committed from a run plan's pipeline.
 ghost use Rattle.std.specs.Prelude.{◌≡◌, ◌<◌, ◌≤◌, ◌-◌, ◌^◌};
 ghost use Rattle.dp_plan.specs.declared.Plan.{Plan};
 ghost use Rattle.dp_prepared.specs.Planned.{IsPlanned};
@@ -9,6 +9,7 @@ ghost use Rattle.dp_epoch.specs.Followed.{IsFollowed};
 ghost use Rattle.dp_epoch.specs.InEpoch.{ToBegin};
 ghost use Rattle.dp_crew.specs.EpochRan.{HasFollowed};
 
+use crate::choosing::Way;
 use crate::crew::Crew;
 use crate::waiting::flush_if_many;
 use crate::work::Work;
@@ -22,10 +23,11 @@ use std::alloc::Global;
 use std::sync::Wait;
 use std::time::Clock;
 
-/// Follows the iterations behind what is committed by the run plan, if there is one and it is chosen. An epoch of the plan
-/// may begin behind them.
+/// Follows the iterations behind what is committed in this way, if there is such a run plan and it is chosen. An epoch of the
+/// plan may begin behind them.
 pub(crate) fn follow_ahead<'p, 'v, 'u, E, R: Wait + Clock + Sync, K: Sink, G: Gate, W: Watch>(
     work: Work<'u, '_>,
+    way: Way,
     crew: &mut Crew<'_, 'u, E, R, G>,
     ledger: Ledger<'p, 'v>,
     sink: &mut K,
@@ -37,8 +39,8 @@ pub(crate) fn follow_ahead<'p, 'v, 'u, E, R: Wait + Clock + Sync, K: Sink, G: Ga
     requires room { HasRoom tally.old ledger.committed }
     ensures followed { HasFollowed (λ first. ToBegin work.entry.region.now.program work.entry.region.now.plan work.entry.input.now first ledger.entry.committed ledger.entry.account) work.entry.region.now.plan ledger.entry result (K.faults sink.old) (K.faults sink.new) (K.written sink.old) (K.written sink.new) tally.old tally.new }
 {
-    match work.region.other() {
-        Some(other) => follow_epoch(work, other, crew, ledger, sink, tally),
+    match work.other(way) {
+        Some(other) => follow_epoch(work, other, way, crew, ledger, sink, tally),
         None => Ok(ledger),
     }
 }
@@ -47,6 +49,7 @@ pub(crate) fn follow_ahead<'p, 'v, 'u, E, R: Wait + Clock + Sync, K: Sink, G: Ga
 fn follow_epoch<'p, 'v, 'u, E, R: Wait + Clock + Sync, K: Sink, G: Gate, W: Watch>(
     work: Work<'u, '_>,
     other: &'u PreparedRegion<'_>,
+    way: Way,
     crew: &mut Crew<'_, 'u, E, R, G>,
     ledger: Ledger<'p, 'v>,
     sink: &mut K,
@@ -59,19 +62,29 @@ fn follow_epoch<'p, 'v, 'u, E, R: Wait + Clock + Sync, K: Sink, G: Gate, W: Watc
     requires room { HasRoom tally.old ledger.committed }
     ensures followed { HasFollowed (λ first. ToBegin work.entry.region.now.program work.entry.region.now.plan work.entry.input.now first ledger.entry.committed ledger.entry.account) work.entry.region.now.plan ledger.entry result (K.faults sink.old) (K.faults sink.new) (K.written sink.old) (K.written sink.new) tally.old tally.new }
 {
-    if !crew.follows() {
+    if !crew.follows(way) {
         return Ok(ledger);
     }
     is_planned(other);
     let mut setter = StopSetter::new(work.alloc)?;
     let (begun, lent) = (&ledger, &mut setter);
-    let Pipeline { units, verdicts } =
-        pipeline_here(work.alloc, other, work.input, work.size, begun, lent)?;
+    let Pipeline { units, verdicts } = pipeline_here(
+        work.alloc, other, work.input, work.size, begun, lent,
+    )?;
     let mut polled = verdicts.polling(units);
     let words = work.region.plan().words;
-    crew.begin_following();
-    let followed = follow_verdicts(crew, work.alloc, words, &mut polled, ledger, sink, tally);
-    crew.end_following();
+    crew.begin_following(way);
+    let followed = follow_verdicts(
+        crew,
+        way,
+        work.alloc,
+        words,
+        &mut polled,
+        ledger,
+        sink,
+        tally,
+    );
+    crew.end_following(way, setter);
     followed
 }
 
@@ -86,6 +99,7 @@ fn is_planned(region: &PreparedRegion<'_>)
 /// they can be followed and are to be.
 fn follow_verdicts<'p, 'v, 'u, E, R: Wait + Clock + Sync, K: Sink, G: Gate, W: Watch>(
     crew: &mut Crew<'_, 'u, E, R, G>,
+    way: Way,
     alloc: Global,
     words: u32,
     verdicts: &mut LaneVerdicts<'u>,
@@ -100,11 +114,12 @@ fn follow_verdicts<'p, 'v, 'u, E, R: Wait + Clock + Sync, K: Sink, G: Gate, W: W
 {
     let rt = crew.rt();
     'verdicts: loop {
+        crew.await_followed(way, verdicts);
         let followed = follow(alloc, rt, verdicts, words, &mut ledger, tally)?;
         flush_if_many(alloc, &mut ledger.waiting, sink)?;
         match followed {
             Followed::Committed => {
-                if !crew.follows_on() {
+                if !crew.follows_on(way) {
                     return Ok(ledger);
                 }
             }

@@ -1,8 +1,12 @@
 //! What a crew works at.
 ghost use Rattle.std.specs.Prelude.{◌≡◌, true};
+ghost use Rattle.std.specs.Option.{IfSome};
+ghost use Rattle.dp_run_plan.specs.Others.{RunsAs};
 ghost use Rattle.dp_run_plan.specs.RunPlan.{hides_nothing};
 
+use crate::choosing::Way;
 use dp_epoch::CrewSize;
+use dp_prepared::PreparedRegion;
 use dp_run_plan::RunRegion;
 use dp_waiting::Bell;
 use std::alloc::Global;
@@ -35,6 +39,16 @@ impl<'u, 'p> Work<'u, 'p> {
             input,
             size,
             bells,
+        }
+    }
+
+    /// The region under the plan by which its iterations are followed in this way, if there is one.
+    pub(crate) fn other(self, way: Way) -> Option<&'u PreparedRegion<'p>>
+        ensures { IfSome result (λ other. RunsAs self.entry.region.now other.now) }
+    {
+        match way {
+            Way::Alone => self.region.other(),
+            Way::Together => self.region.whole(),
         }
     }
 

@@ -8,6 +8,7 @@ ghost use Rattle.dp_words.specs.Run.{RunWithin, shown};
 ghost use Rattle.dp_drive.specs.steps.Carried.{Carried, Finishes};
 
 use crate::logging::size_of;
+use crate::others::run_plans;
 use crate::texts::may_choose;
 use crate::writing::{fail_read, refuse};
 use dp_base::Row;
@@ -16,7 +17,6 @@ use dp_edge::{Shelf, Sink, WriteFail, write};
 use dp_load::{BatchTexts, load_batch};
 use dp_plan::Plan;
 use dp_run::PreparedProgram;
-use dp_run_plan::RunPlans;
 use dp_tree::Program;
 use dp_words::RunWords;
 use std::alloc::Global;
@@ -69,7 +69,7 @@ fn run_each<R: Threads + Wait + Clock + Sync, K: Sink>(
 {
     let plans = plans.as_slice();
     let inputs = inputs.as_slice();
-    let others = RunPlans::of(alloc, plans, may_choose(run))?;
+    let others = run_plans(alloc, program, plans, may_choose(run))?;
     let prepared = PreparedProgram::new(alloc, program, plans, &others)?;
     let text = batch(rt, alloc, &prepared, inputs, run.fuel, size_of(run))?;
     write(text.as_slice(), sink)?;

@@ -4,12 +4,12 @@ ghost use Rattle.dp_edge.specs.Writing.{FaultsAfter};
 ghost use Rattle.dp_run.specs.Given.{AreGiven};
 ghost use Rattle.dp_drive.specs.steps.Runs.{Runs};
 
+use crate::others::run_plans;
 use dp_base::Row;
 use dp_edge::{Gate, Sink, WriteFail};
 use dp_plan::Plan;
 use dp_refusal::end_status;
 use dp_run::{NativeCode, PreparedProgram, RunOptions, Tally, Watch, run_program};
-use dp_run_plan::RunPlans;
 use dp_tree::Program;
 use std::alloc::Global;
 use std::sync::Wait;
@@ -39,7 +39,7 @@ pub fn run_to_end<R: Threads + Wait + Clock + Sync, N: NativeCode, K: Sink, G: G
     ensures runs { Runs [] program.now plans.now input.now options.fuel options.why (K.written sink.old) (K.written sink.new) tally.old tally.new result }
 {
     let plans = plans.as_slice();
-    let others = RunPlans::of(alloc, plans, chooses)?;
+    let others = run_plans(alloc, program, plans, chooses)?;
     let prepared = PreparedProgram::new(alloc, program, plans, &others)?;
     let end = run_program(
         rt,

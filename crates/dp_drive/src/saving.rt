@@ -13,6 +13,7 @@ ghost use Rattle.dp_drive.specs.steps.Saved.{status_at};
 ghost use Rattle.dp_refusal.specs.Refusal.{status_of};
 
 use crate::logging::size_of;
+use crate::others::run_plans;
 use crate::texts::{RunTexts, may_choose};
 use crate::writing::{fail_read, refuse};
 use dp_edge::{Gate, Shelf, Sink, WriteFail};
@@ -20,7 +21,6 @@ use dp_load::{Loaded, Texts, load_checkpoint, load_texts};
 use dp_refusal::{Role, end_status};
 use dp_resume::{SaveEnd, SavePlace, resume_program, save_program};
 use dp_run::{PreparedProgram, Tally, Unwatched};
-use dp_run_plan::RunPlans;
 use dp_save::Checkpoint;
 use dp_words::{Place, RunWords};
 use std::alloc::Global;
@@ -83,7 +83,7 @@ fn save_at<R: Threads + Wait + Clock + Sync, K: Sink, G: Gate>(
         after: place.after,
     };
     let plans = texts.plans.as_slice();
-    let others = RunPlans::of(alloc, plans, may_choose(texts.run))?;
+    let others = run_plans(alloc, texts.program, plans, may_choose(texts.run))?;
     let prepared = PreparedProgram::new(alloc, texts.program, plans, &others)?;
     let end = save_program(
         rt,
@@ -178,7 +178,7 @@ fn resume_at<R: Threads + Wait + Clock + Sync, K: Sink, G: Gate>(
         (resumed_bytes texts.entry.program.now texts.entry.plans.now texts.entry.input.now checkpoint) (K.written sink.old) (K.written sink.new) result }
 {
     let plans = texts.plans.as_slice();
-    let others = RunPlans::of(alloc, plans, may_choose(texts.run))?;
+    let others = run_plans(alloc, texts.program, plans, may_choose(texts.run))?;
     let prepared = PreparedProgram::new(alloc, texts.program, plans, &others)?;
     let mut tally = Tally::new(Unwatched);
     let end = resume_program(

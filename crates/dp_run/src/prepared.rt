@@ -1,7 +1,7 @@
 //! A program that is ready to be run.
 ghost use Rattle.std.specs.Prelude.{◌≡◌, Bool, map, IfOk};
 ghost use Rattle.dp_prepared.specs.Planned.{prepared_of};
-ghost use Rattle.dp_run_plan.specs.Others.{others_of};
+ghost use Rattle.dp_run_plan.specs.Others.{AreOthers};
 ghost use Rattle.dp_run.specs.Given.{AreGiven};
 
 use dp_base::{NoMemory, Row};
@@ -52,7 +52,7 @@ impl<'p> PreparedProgram<'p> {
         others: &'p RunPlans,
     ) -> Result<PreparedProgram<'p>, NoMemory>
         requires given { AreGiven program.now plans.now }
-        requires others { (chooses : Bool) × (others.now ≡ others_of chooses plans.now) }
+        requires others { AreOthers program.now plans.now others.now }
         ensures { IfOk result (λ made. made ≡ record { program = program.now; plans = plans.now }) }
     {
         let regions = prepare(alloc, program, plans, others)?;

@@ -44,6 +44,28 @@ fn whole_plan(alloc: Global, p: &Program, region: u32, workers: u32) -> Result<P
     )
 }
 
+/// Whether a region has an inner loop.
+fn has_loop(alloc: Global, p: &Program, region: u32) -> Result<bool, NoMemory> {
+    let nodes = nodes_of(alloc, p, region)?;
+    for node in nodes.as_slice() {
+        if node.outer_loop.is_some() {
+            return Ok(true);
+        }
+    }
+    Ok(false)
+}
+
+/// Whether one of the regions has an inner loop.
+fn has_loops(alloc: Global, p: &Program) -> Result<bool, NoMemory> {
+    for place in 0..p.regions.len() {
+        let region = few(place + 1)?;
+        if has_loop(alloc, p, region)? {
+            return Ok(true);
+        }
+    }
+    Ok(false)
+}
+
 /// The plans of a text, unless it breaks a rule.
 fn plans_in(alloc: Global, text: &[u8], p: &Program) -> Result<Option<Row<Plan>>, NoMemory>
     requires inlined { IsInlined p.now }
@@ -58,13 +80,17 @@ fn plans_in(alloc: Global, text: &[u8], p: &Program) -> Result<Option<Row<Plan>>
 }
 
 /// A plan for each region of an inlined program that keeps its inner loops whole, for a replicated stage with so many workers, from
-/// 1 to 8. It is written as a text and read back, so the rules are tested as those of any text; none where one is broken.
+/// 1 to 8. It is written as a text and read back, so the rules are tested as those of any text; none where one is broken, and none
+/// where no region has an inner loop.
 pub fn whole_plans(alloc: Global, p: &Program, workers: u32) -> Result<Option<Row<Plan>>, NoMemory>
     requires inlined { IsInlined p.now }
     requires workers { 0 < workers }
     requires few_workers { workers < 9 }
     ensures { IfOk result (λ plans. IfSome plans (λ plans. ArePlans p.now plans)) }
 {
+    if !has_loops(alloc, p)? {
+        return Ok(None);
+    }
     let mut made = Row::new(alloc);
     for place in 0..p.regions.len() {
         let region = few(place + 1)?;
