@@ -18,8 +18,8 @@ invariant_of-result c =
 pub returns : goal.returns
 returns c =
     let p = c.args.program.now in let plan = c.args.plan.now in
-    let right = subst (AreNotes p plan c.args.kinds c.args.code.now) (sym c.as_slice-notes.ensures) c.in_ok-notes.ensures.right in
-    let finishes = subst (KnowFinishes p plan c.args.code.now) (sym c.as_slice-notes.ensures) c.in_ok-notes.ensures.finishes in
+    let right = subst (AreNotes p plan c.args.kinds c.args.code.now) (sym c.as_slice-3.ensures) c.in_ok-notes.ensures.right in
+    let finishes = subst (KnowFinishes p plan c.args.code.now) (sym c.as_slice-3.ensures) c.in_ok-notes.ensures.finishes in
     record {
       ops = c.in_ok-ops.ensures;
       steps = c.in_ok-steps.ensures.right p plan c.args.kinds right;
