@@ -17,13 +17,8 @@ pub(crate) fn by_zero(value: i64, zero: u32, next: usize) -> usize
 /// The turn closes where a 0 comes to the region's condition.
 #[inline(always)]
 #[tactic(auto, unfolding(dp_base::specs::Arithmetic::is_zero))]
-<<<<<<< HEAD
-pub(crate) fn closes<'p>(frame: &Frame<'p>, before: bool, site: SiteId, value: i64) -> bool
-    ensures { result ≡ (before || is_zero_at frame.now.first site.0 value) }
-=======
 pub(crate) fn close(closing: &mut bool, note: &Note, value: i64)
     ensures { closing.new ≡ (closing.old || note.now.closes && is_zero value) }
->>>>>>> e95a44d754b3dba4f0bb5a4ad1eff6a64aa8d4fd
 {
     if note.closes {
         *closing = *closing || value == 0;

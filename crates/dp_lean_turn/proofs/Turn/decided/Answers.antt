@@ -10,15 +10,9 @@ returns-in-Goes-clause-does g c = λ m before st done pending value other assume
     let t = c.args.self.now in
     let same : to_z w64 (of_z w64 c.args.value) ≡ c.args.value = search rules in
     let is = is_event cells f m before t st c.args.note.now pending c.args.site c.requires.own done 0 (to_z w64 (of_z w64 c.args.value)) (not_cell done other) (value ∙ sym same) in
-<<<<<<< HEAD
-    goes cells f m before t st c.args.note.now pending c.args.site c.requires.own done _ c.args.next f.first
-    (c.in-Goes.ensures.adds m before st.held (event cells f m before t st c.args.note.now pending c.args.site c.requires.own done) is other assumed)
-    c.requires.first (sym (not_changed done (cells t.memory) other)) refl (c.closes-self.ensures ∙ ap (λ (z : ℤ). t.closing || is_zero_at f.first c.args.site.0 z) (same ∙ sym value)) refl
-=======
     goes cells f m before t st c.args.note.now pending c.args.site c.requires.own done _ c.args.next
     (c.in-Goes.ensures.adds m before st.held (event cells f m before t st c.args.note.now pending c.args.site c.requires.own done) is other assumed)
     (sym (not_changed done (cells t.memory) other)) refl (c.close.ensures ∙ ap (λ (z : ℤ). t.closing || c.args.note.now.closes && is_zero z) (same ∙ sym value)) refl
->>>>>>> e95a44d754b3dba4f0bb5a4ad1eff6a64aa8d4fd
 
 pub returns-in_default : goal.returns-in_default
 returns-in_default g c = record {

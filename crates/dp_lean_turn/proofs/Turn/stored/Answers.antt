@@ -12,15 +12,9 @@ returns-in-Ok-clause-does g c = λ m before st pending.
     let same : to_z w64 (of_z w64 c.args.value) ≡ c.args.value = search rules in
     let effect = Stored c.args.cell c.args.value in
     let is = is_event cells f m before t st c.args.note.now pending c.args.site c.requires.own effect c.args.cell (to_z w64 (of_z w64 c.args.value)) refl (sym same) in
-<<<<<<< HEAD
-    goes cells f m before t st c.args.note.now pending c.args.site c.requires.own effect _ c.args.next f.first
-    (c.in-Goes.ensures.adds m before st.held (event cells f m before t st c.args.note.now pending c.args.site c.requires.own effect) is (ap (Stored c.args.cell) (sym same)))
-    c.requires.first (c.in-Ok.ensures ∙ ap (set (cells t.memory) c.args.cell) same) refl (c.closes-self.ensures ∙ ap (λ (z : ℤ). t.closing || is_zero_at f.first c.args.site.0 z) same) refl
-=======
     goes cells f m before t st c.args.note.now pending c.args.site c.requires.own effect _ c.args.next
     (c.in-Goes.ensures.adds m before st.held (event cells f m before t st c.args.note.now pending c.args.site c.requires.own effect) is (ap (Stored c.args.cell) (sym same)))
     (c.in-Ok.ensures ∙ ap (set (cells t.memory) c.args.cell) same) refl (c.close.ensures ∙ ap (λ (z : ℤ). t.closing || c.args.note.now.closes && is_zero z) same) refl
->>>>>>> e95a44d754b3dba4f0bb5a4ad1eff6a64aa8d4fd
 
 pub returns-in_default : goal.returns-in_default
 returns-in_default g c = record {
