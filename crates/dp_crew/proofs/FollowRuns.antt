@@ -24,7 +24,7 @@ use Rattle.dp_epoch.specs.Progress.{Progress, report_before}
 use Rattle.dp_epoch.specs.Prints.{prints_from, to_come}
 use Rattle.dp_epoch.proofs.Counting.{told_iterations}
 use Rattle.dp_epoch.proofs.EpochBegins.{sound_here}
-use Rattle.dp_epoch.proofs.OtherEpoch.{follows_here as follows_from, other_begins}
+use Rattle.dp_epoch.proofs.OtherEpoch.{begin_following, other_begins}
 use Rattle.dp_edge.specs.Writing.{WritesFront}
 use Rattle.dp_report.specs.PrintsText.{prints_bytes}
 use Rattle.dp_crew.specs.EpochRan.{HasFollowed}
@@ -67,7 +67,7 @@ module _ (region other : Prepared) (beside : RunsAs region other) (planned : IsP
     follows_here first b =
         subst (λ (v : Coming). IsFollowed region.plan v.key v.given first ledger.committed ledger.account) (sym is)
         (subst (λ (p : Program). IsFollowed region.plan (key_here p other.plan input ledger.committed) 0 first ledger.committed ledger.account) (sym beside.0)
-        (follows_from region.plan (key_here region.program other.plan input ledger.committed) 0 first ledger.committed ledger.account (record { first = refl; base = refl; steps = refl; fuel = refl; none = refl }) b beside.1 fits))
+        (begin_following region.program region.plan other.plan input first ledger.committed ledger.account b beside.1 fits))
 
     pub followed_here : (r : Result Ledger WriteFail) (faults faults_now : ℕ) (told tells : Option (List ℕ)) (tally tally_now : ℕ) →
         HasFollowed (λ (first : MachineState). IsFollowed region.plan verdicts.key verdicts.given first ledger.committed ledger.account) region.plan ledger r faults faults_now told tells tally tally_now →

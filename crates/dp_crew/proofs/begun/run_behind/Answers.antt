@@ -22,12 +22,12 @@ run_own_epoch-requires-clause-sink g c =
     omega (arith, same, low)
 
 pub run_own_epoch-requires-clause-epoch : goal.run_own_epoch-requires-clause-epoch
-run_own_epoch-requires-clause-epoch g c =
+run_own_epoch-requires-clause-epoch g c κs within =
     let b = c.requires.epoch.1 in
     (c.requires.epoch.0, record { at_epoch = c.in_ok-followed.ensures.followed.ends c.requires.epoch.0 b; program_is = b.program_is; input_is = b.input_is })
 
 pub run_own_epoch-requires-clause-room : goal.run_own_epoch-requires-clause-room
-run_own_epoch-requires-clause-room g c = c.in_ok-followed.ensures.followed.room
+run_own_epoch-requires-clause-room g c κs within = c.in_ok-followed.ensures.followed.room
 
 pub returns-in_err-followed-clause-ran : goal.returns-in_err-followed-clause-ran
 returns-in_err-followed-clause-ran g c = stops_so _ _ _ _ _ _ _ _ _ _ c.in_err-followed.ensures.followed c.from_residual.result c.from_residual.ensures.1
