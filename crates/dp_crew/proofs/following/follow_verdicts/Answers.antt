@@ -1,6 +1,5 @@
-use Rattle.std.proofs.Common.{◌∙◌, ◌+◌, refl, sym, ap, subst, arith}
+use Rattle.std.proofs.Common.{◌∙◌, refl, sym, ap, subst, arith}
 use Rattle.dp_base.specs.declared.RegionReport.{RegionReport}
-use Rattle.dp_plan.specs.declared.Plan.{Plan}
 use Rattle.dp_semantics.specs.EpochKey.{EpochKey}
 use Rattle.dp_epoch.specs.declared.following.Followed.{Followed}
 use Rattle.dp_epoch.specs.Followed.{Follows, IsFollowed}
