@@ -64,7 +64,15 @@ fn run_own_epoch<'p, 'v, 'u, E, R: Wait + Clock + Sync, K: Sink, G: Gate, W: Wat
     )?;
     let mut polled = verdicts.polling(units);
     crew.begin();
-    let end = run_epoch(crew, work.alloc, may_leave, &mut polled, ledger, sink, tally);
+    let end = run_epoch(
+        crew,
+        work.alloc,
+        may_leave,
+        &mut polled,
+        ledger,
+        sink,
+        tally,
+    );
     crew.end(setter);
     end
 }

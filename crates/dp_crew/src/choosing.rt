@@ -161,7 +161,10 @@ impl Choice {
     /// Whether the trial has taken twice the time of following already.
     fn is_slow(&self, now: u64) -> bool {
         let took = now.saturating_sub(self.begun).saturating_sub(SLACK);
-        let limit = self.spent.saturating_mul(u64::from(self.tried)).saturating_mul(2);
+        let limit = self
+            .spent
+            .saturating_mul(u64::from(self.tried))
+            .saturating_mul(2);
         took.saturating_mul(u64::from(self.followed)) > limit
     }
 }

@@ -65,8 +65,9 @@ fn follow_epoch<'p, 'v, 'u, E, R: Wait + Clock + Sync, K: Sink, G: Gate, W: Watc
     is_planned(other);
     let mut setter = StopSetter::new(work.alloc)?;
     let (begun, lent) = (&ledger, &mut setter);
-    let Pipeline { units, verdicts } =
-        pipeline_here(work.alloc, other, work.input, work.size, begun, lent)?;
+    let Pipeline { units, verdicts } = pipeline_here(
+        work.alloc, other, work.input, work.size, begun, lent,
+    )?;
     let mut polled = verdicts.polling(units);
     let words = work.region.plan().words;
     crew.begin_following();

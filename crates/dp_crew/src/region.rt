@@ -59,11 +59,7 @@ pub fn run_region<'p, R: Threads + Wait + Clock + Sync, K: Sink, G: Gate, W: Wat
 }
 
 /// The bells of the threads that an epoch's units may have, if they may, and of the caller.
-fn bells_of(
-    alloc: Global,
-    region: &RunRegion<'_>,
-    size: CrewSize,
-) -> Result<Vec<Bell>, NoMemory> {
+fn bells_of(alloc: Global, region: &RunRegion<'_>, size: CrewSize) -> Result<Vec<Bell>, NoMemory> {
     if !size.threads {
         return Ok(Vec::new(alloc));
     }
