@@ -2,8 +2,8 @@
 ghost use Rattle.std.specs.Prelude.{◌≡◌, ◌≤◌, nat_lt};
 
 use dp_plan::{Plan, StageKind};
-use dp_run_plan::RunRegion;
 use dp_run::CrewSize;
+use dp_run_plan::RunRegion;
 use std::thread::{Threads, available_parallelism};
 
 /// So many processors are shared where the system doesn't tell how many there are.
