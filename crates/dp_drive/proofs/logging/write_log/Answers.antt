@@ -1,4 +1,4 @@
-use Rattle.std.proofs.Common.{◌≡◌, ◌∙◌, ap, subst, false, List, ℤ}
+use Rattle.std.proofs.Common.{◌≡◌, ◌∙◌, ap, subst, List, ℤ}
 use Rattle.dp_edge.specs.Sink.{appended}
 use Rattle.dp_edge.specs.Writing.{WritesFront}
 use Rattle.dp_plan.specs.declared.Plan.{Plan}
@@ -10,7 +10,7 @@ use Rattle.dp_drive.proofs.Stopping.{stopped_within}
 use Rattle.dp_drive.proofs.logging.write_log.Goals as goal
 
 pub new-prepared-requires-clause-others : goal.new-prepared-requires-clause-others
-new-prepared-requires-clause-others g c = (false, c.in_ok-others.ensures)
+new-prepared-requires-clause-others g c = c.in_ok-others.ensures
 
 pub returns-in_err-end-clause-finishes : goal.returns-in_err-end-clause-finishes
 returns-in_err-end-clause-finishes g c =
