@@ -1,11 +1,11 @@
 //! Iterations that are committed from a run plan's pipeline.
-ghost use Rattle.std.specs.Prelude.{◌≡◌, ◌<◌, ◌≤◌, ◌-◌, ◌^◌};
+ghost use Rattle.std.specs.Prelude.{◌≡◌, ◌<◌, ◌≤◌, ◌+◌, ◌-◌, ◌^◌, IfOk};
 ghost use Rattle.dp_plan.specs.declared.Plan.{Plan};
 ghost use Rattle.dp_prepared.specs.Planned.{IsPlanned};
 ghost use Rattle.dp_run_plan.specs.Others.{RunsAs};
 ghost use Rattle.dp_meaning.specs.MachineState.{MachineState};
 ghost use Rattle.dp_epoch.specs.Applied.{HasRoom};
-ghost use Rattle.dp_epoch.specs.Followed.{IsFollowed};
+ghost use Rattle.dp_epoch.specs.Followed.{Follows, IsFollowed};
 ghost use Rattle.dp_epoch.specs.InEpoch.{ToBegin};
 ghost use Rattle.dp_crew.specs.EpochRan.{HasFollowed};
 
@@ -13,6 +13,7 @@ use crate::choosing::Way;
 use crate::crew::Crew;
 use crate::waiting::flush_if_many;
 use crate::work::Work;
+use dp_base::NoMemory;
 use dp_commit::{Tally, Watch};
 use dp_edge::{Gate, Sink, WriteFail};
 use dp_epoch::{Followed, Ledger, follow, pipeline_here};
@@ -95,6 +96,27 @@ fn is_planned(region: &PreparedRegion<'_>)
     let _number = region.number();
 }
 
+/// Awaits the next verdict of the other plan's epoch, and takes it.
+fn follow_next<'u, E, R: Wait + Clock + Sync, G: Gate, W: Watch>(
+    crew: &mut Crew<'_, 'u, E, R, G>,
+    way: Way,
+    alloc: Global,
+    words: u32,
+    verdicts: &mut LaneVerdicts<'u>,
+    ledger: &mut Ledger<'_, '_>,
+    tally: &mut Tally<W>,
+) -> Result<Followed, NoMemory>
+    requires epoch { (plan : Plan) × (first : MachineState) × IsFollowed plan verdicts.old.key verdicts.old.given first ledger.old.committed ledger.old.account × (words ≡ plan.words) }
+    requires room { HasRoom tally.old ledger.old.committed }
+    ensures key { verdicts.new.key ≡ verdicts.old.key }
+    ensures given { verdicts.new.given ≡ verdicts.old.given + 1 }
+    ensures followed { IfOk result (λ followed. Follows words verdicts.old.key verdicts.old.given ledger.old ledger.new followed tally.old tally.new) }
+{
+    let rt = crew.rt();
+    crew.await_followed(way, verdicts);
+    follow(alloc, rt, verdicts, words, ledger, tally)
+}
+
 /// Commits iterations as the verdicts of the other plan's epoch come, and lets their prints wait or writes them, as long as
 /// they can be followed and are to be.
 fn follow_verdicts<'p, 'v, 'u, E, R: Wait + Clock + Sync, K: Sink, G: Gate, W: Watch>(
@@ -112,10 +134,8 @@ fn follow_verdicts<'p, 'v, 'u, E, R: Wait + Clock + Sync, K: Sink, G: Gate, W: W
     requires room { HasRoom tally.old ledger.committed }
     ensures followed { (plan : Plan) → words ≡ plan.words → HasFollowed (λ first. IsFollowed plan verdicts.old.key verdicts.old.given first ledger.entry.committed ledger.entry.account) plan ledger.entry result (K.faults sink.old) (K.faults sink.new) (K.written sink.old) (K.written sink.new) tally.old tally.new }
 {
-    let rt = crew.rt();
     'verdicts: loop {
-        crew.await_followed(way, verdicts);
-        let followed = follow(alloc, rt, verdicts, words, &mut ledger, tally)?;
+        let followed = follow_next(crew, way, alloc, words, verdicts, &mut ledger, tally)?;
         flush_if_many(alloc, &mut ledger.waiting, sink)?;
         match followed {
             Followed::Committed => {
