@@ -9,9 +9,6 @@ use Rattle.dp_refusal.specs.Refusal.{status_of}
 use Rattle.dp_drive.proofs.Stopping.{stopped_within}
 use Rattle.dp_drive.proofs.logging.write_log.Goals as goal
 
-pub new-prepared-requires-clause-others : goal.new-prepared-requires-clause-others
-new-prepared-requires-clause-others g c = c.in_ok-others.ensures
-
 pub returns-in_err-end-clause-finishes : goal.returns-in_err-end-clause-finishes
 returns-in_err-end-clause-finishes g c =
     let made : c.in_ok-prepared.prepared ≡ record { program = c.args.texts.program.now; plans = c.args.texts.plans.now } =

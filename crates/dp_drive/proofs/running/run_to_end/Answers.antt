@@ -8,9 +8,6 @@ use Rattle.dp_drive.proofs.Stopping.{stopped_before}
 use Rattle.dp_drive.proofs.MadeLemmas.{stopped_counts}
 use Rattle.dp_drive.proofs.running.run_to_end.Goals as goal
 
-pub new-prepared-requires-clause-others : goal.new-prepared-requires-clause-others
-new-prepared-requires-clause-others g c = c.in_ok-others.ensures
-
 pub returns-in_err-others-clause-runs : goal.returns-in_err-others-clause-runs
 returns-in_err-others-clause-runs g c = record { finishes = stopped_before _ _ _ _ _ c.from_residual.ensures.0 refl; counted = stopped_counts _ _ c.from_residual.ensures.0 }
 

@@ -2,9 +2,6 @@ use Rattle.std.proofs.Common.{refl}
 use Rattle.dp_drive.proofs.Stopping.{stopped_before}
 use Rattle.dp_drive.proofs.saving.resume_at.Goals as goal
 
-pub new-prepared-requires-clause-others : goal.new-prepared-requires-clause-others
-new-prepared-requires-clause-others g c = c.in_ok-others.ensures
-
 pub returns-in_err-others-clause-finishes : goal.returns-in_err-others-clause-finishes
 returns-in_err-others-clause-finishes g c = stopped_before _ _ _ _ _ c.from_residual.ensures.0 refl
 
