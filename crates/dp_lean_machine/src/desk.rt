@@ -5,7 +5,7 @@ ghost use Rattle.dp_lean_machine.specs.Within.{read_of};
 
 use crate::StageColumns;
 use dp_columns::{Columns, Reader, ReaderRoom};
-use dp_lean_turn::{Loads, Log};
+use dp_lean_turn::{Loads, Log, NetLog};
 use dp_room::{NoMemory, Row};
 use std::alloc::Global;
 use std::mem;
@@ -50,7 +50,7 @@ impl Desk {
             log: Log {
                 running: false,
                 place: 0,
-                stores: Row::new(alloc),
+                stores: NetLog::new(alloc),
             },
             rooms: Row::new(alloc),
         })

@@ -76,7 +76,7 @@ fn turn_once<'c, 'p, M: Memory + Drop>(
         Within e s b M.cells came.iterations j turn.old steps.old → ComesTo e s b M.cells came j turn.new steps.new result }
     ensures keeps { Keeps turn.old turn.new }
 {
-    match turn.turn(stage.frame, &stage.ready) {
+    match turn.turn(&stage.frame, &stage.ready) {
         Turned::Done {
             closing,
             steps: count,

@@ -1,5 +1,5 @@
 -- A test of each number of a range, one after the other.
-use Rattle.std.proofs.Common.{◌≡◌, sym, ap, ◌∙◌, arith, ℕ, suc, ◌+◌, ◌-◌, ◌<◌, ◌≤◌, ◌&&◌, Bool, true, false}
+use Rattle.std.proofs.Common.{◌≡◌, sym, ap, ◌∙◌, arith, ℕ, suc, ◌+◌, ◌-◌, ◌<◌, ◌&&◌, Bool, true, false}
 use Rattle.std.specs.List.{list_all}
 use Rattle.dp_tree.specs.Numbering.{numbers_from}
 
@@ -21,8 +21,3 @@ module _ (test : ℕ → Bool) (first place n : ℕ) (whole : Bool) where
   -- it doesn't
   pub all_fails : place < n → test (first + place) ≡ false → Left place ≡ whole → false ≡ whole
   all_fails low fails made = sym (opened low ∙ ap (λ b. b && Left (place + 1)) fails) ∙ made
-
-  -- none is left
-  pub all_over : n ≤ place → Left place ≡ whole → true ≡ whole
-  all_over past made =
-      let left : n - place ≡ 0 = omega (arith, past) in sym (ap (λ (k : ℕ). list_all test (numbers_from (first + place) k)) left) ∙ made

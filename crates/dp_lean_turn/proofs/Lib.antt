@@ -1,6 +1,7 @@
 pub mod Growing
 pub mod Puts
 pub mod Entries
+pub mod Leads
 pub mod Added
 pub mod Readers
 pub mod Makes

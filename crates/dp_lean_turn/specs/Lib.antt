@@ -1,6 +1,7 @@
 pub mod Notes
 pub mod Told
 pub mod Left
+pub mod Leading
 pub mod Logged
 pub mod Standing
 pub mod Adding

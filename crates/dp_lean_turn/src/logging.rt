@@ -1,35 +1,127 @@
 //! The net stores of a block that is running.
-ghost use Rattle.std.specs.Prelude.{◌≡◌, map, length, OnOk, MatchOption};
+ghost use Rattle.std.specs.Prelude.{◌≡◌, ◌<◌, ◌++◌, ◌∷◌, [], map, length, List, OnOk, OnErr, MatchOption, ℕ};
 ghost use Rattle.dp_net.specs.NetItems.{put};
 ghost use Rattle.dp_lean_turn.specs.Told.{stored_by};
 ghost use Rattle.dp_lean_turn.specs.Logged.{AreOthers, IsFirstAt};
 
 use crate::Entry;
 use dp_room::{NoMemory, Row};
+use std::alloc::Global;
+use std::marker::Model;
 
-/// Where the first store into a cell stands, if one does.
-#[inline(always)]
-fn place_of(stores: &[Entry], cell: u32) -> Option<usize>
-    ensures { MatchOption result (AreOthers cell (length stores.now) stores.now) (λ place. IsFirstAt cell place stores.now) }
-{
-    for place in 0..stores.len() {
-        if stores[place].cell == cell {
-            return Some(place);
-        }
-    }
-    None
+/// The net stores of a block, in the order of the first ones into their cells. The cell of each leads to its place. What is
+/// kept of a cell is looked at only where it leads to an entry of that cell, so that a block begins without clearing it.
+#[derive(Drop)]
+pub struct NetLog {
+    entries: Row<Entry>,
+    /// By cell: where its entry stands, if it has one. It is as long as needed.
+    places: Row<u32>,
 }
 
-/// A store more: it takes the place of an earlier one into its cell, or stands behind the others.
-#[inline(always)]
-pub(crate) fn put_store(stores: &mut Row<Entry>, cell: u32, value: i64) -> Result<(), NoMemory>
-    ensures { OnOk result (map stored_by stores.new ≡ put cell value (map stored_by stores.old)) }
+impl Model for NetLog {
+    ghost use Rattle.std.specs.Prelude.{List};
+    ghost use Rattle.dp_lean_turn.specs.declared.Entry.{Entry as EntryOf};
+    ghost use Rattle.dp_lean_turn.specs.Leading.{LeadBack};
+
+    ghost Value = { List EntryOf };
+
+    ghost view = { λ log. log.entries };
+
+    ghost invariant = { λ log. LeadBack log.entries log.places };
+}
+
+/// There is a place for the cell, and what was kept stays.
+#[inline(never)]
+fn reach(places: &mut Row<u32>, cell: u32) -> Result<(), NoMemory>
+    ensures more { (more : List ℕ) × (places.new ≡ places.old ++ more) }
+    ensures within { OnOk result (cell < length places.new) }
 {
-    match place_of(stores.as_slice(), cell) {
-        Some(place) => {
-            stores.set(place, Entry { cell, value });
-            Ok(())
+    for _ in places.len()..cell as usize + 1 {
+        places.push(0)?;
+    }
+    Ok(())
+}
+
+impl NetLog {
+    /// A log without stores. It takes no memory until there is one.
+    pub fn new(alloc: Global) -> NetLog
+        ensures { result ≡ [] }
+    {
+        NetLog {
+            entries: Row::new(alloc),
+            places: Row::new(alloc),
         }
-        None => stores.push(Entry { cell, value }),
+    }
+
+    /// The stores.
+    #[inline(always)]
+    pub(crate) fn as_slice(&self) -> &[Entry]
+        ensures { result.now ≡ self.now }
+    {
+        self.entries.as_slice()
+    }
+
+    /// There are none any more.
+    #[inline(always)]
+    pub(crate) fn clear(&mut self)
+        ensures { self.new ≡ [] }
+    {
+        self.entries.clear();
+    }
+
+    /// Where the store into a cell stands, if there is one.
+    #[inline(always)]
+    fn place_of(&self, cell: u32) -> Option<usize>
+        ensures { MatchOption result (AreOthers cell (length self.now) self.now) (λ place. IsFirstAt cell place self.now) }
+    {
+        match self.places.get(cell as usize) {
+            Some(at) => {
+                let place = *at as usize;
+                match self.entries.get(place) {
+                    Some(entry) => {
+                        if entry.cell == cell {
+                            Some(place)
+                        } else {
+                            None
+                        }
+                    }
+                    None => None,
+                }
+            }
+            None => None,
+        }
+    }
+
+    /// The first store into a cell.
+    #[inline(never)]
+    fn add(&mut self, cell: u32, value: i64) -> Result<(), NoMemory>
+        requires others { AreOthers cell (length self.old) self.old }
+        ensures ok { OnOk result (self.new ≡ self.old ++ record { cell = cell; value = value } ∷ []) }
+        ensures err { OnErr result (self.new ≡ self.old) }
+    {
+        reach(&mut self.places, cell)?;
+        match u32::try_from(self.entries.len()) {
+            Ok(place) => {
+                self.entries.push(Entry { cell, value })?;
+                self.places.set(cell as usize, place);
+                Ok(())
+            }
+            Err(_) => Err(NoMemory),
+        }
+    }
+
+    /// A store more: it takes the place of an earlier one into its cell, or stands behind the others.
+    #[inline(always)]
+    pub(crate) fn put(&mut self, cell: u32, value: i64) -> Result<(), NoMemory>
+        ensures ok { OnOk result (map stored_by self.new ≡ put cell value (map stored_by self.old)) }
+        ensures err { OnErr result (self.new ≡ self.old) }
+    {
+        match self.place_of(cell) {
+            Some(place) => {
+                self.entries.set(place, Entry { cell, value });
+                Ok(())
+            }
+            None => self.add(cell, value),
+        }
     }
 }

@@ -45,32 +45,32 @@ fn block_of<'c>(reader: &mut Reader<'c>, kind: ColumnKind, place: usize) -> Next
 
 /// The next of the note's site, in the reader of its stage.
 #[inline(always)]
-pub(crate) fn take_next<'c>(readers: &mut Row<Reader<'c>>, note: Note) -> Next
-    requires kind { note.kind ≡ kind_at (kinds_of (all_kinds readers.old) note.stage) note.place }
-    ensures took { Took readers.old note readers.new result }
+pub(crate) fn take_next<'c>(readers: &mut Row<Reader<'c>>, note: &Note) -> Next
+    requires kind { note.now.kind ≡ kind_at (kinds_of (all_kinds readers.old) note.now.stage) note.now.place }
+    ensures took { Took readers.old note.now readers.new result }
     ensures kinds { all_kinds readers.new ≡ all_kinds readers.old }
 {
     if note.stage == 0 {
         return Next::NoMemory;
     }
     match readers.get_mut(note.stage as usize - 1) {
-        Some(reader) => next_of(reader, note.kind, note.place),
+        Some(reader) => next_of(reader, note.kind, note.place as usize),
         None => Next::NoMemory,
     }
 }
 
 /// The next block of the note's site.
 #[inline(always)]
-pub(crate) fn take_block<'c>(readers: &mut Row<Reader<'c>>, note: Note) -> NextBlock<'c>
-    requires kind { note.kind ≡ kind_at (kinds_of (all_kinds readers.old) note.stage) note.place }
-    ensures took { TookStores readers.old note readers.new result }
+pub(crate) fn take_block<'c>(readers: &mut Row<Reader<'c>>, note: &Note) -> NextBlock<'c>
+    requires kind { note.now.kind ≡ kind_at (kinds_of (all_kinds readers.old) note.now.stage) note.now.place }
+    ensures took { TookStores readers.old note.now readers.new result }
     ensures kinds { all_kinds readers.new ≡ all_kinds readers.old }
 {
     if note.stage == 0 {
         return NextBlock::NoMemory;
     }
     match readers.get_mut(note.stage as usize - 1) {
-        Some(reader) => block_of(reader, note.kind, note.place),
+        Some(reader) => block_of(reader, note.kind, note.place as usize),
         None => NextBlock::NoMemory,
     }
 }

@@ -10,7 +10,6 @@ ghost use Rattle.dp_lean_turn.specs.Notes.{kind_at};
 ghost use Rattle.dp_lean_turn.specs.Told.{load_of, with_loads, done_put, Grown};
 ghost use Rattle.dp_lean_turn.specs.Adding.{Fits, IsPut, Counts, LogsStore, IsOwnEvent, Adds};
 
-use crate::logging::put_store;
 use crate::{Answer, Entry, Frame, Note, Teller};
 use dp_columns::{ColumnKind, Columns};
 use dp_room::NoMemory;
@@ -69,8 +68,8 @@ fn is_hidden(hidden: &[bool], cell: u32) -> bool
 impl Teller {
     /// How many words the loads are that are told.
     #[inline(always)]
-    fn load_words(&self, note: Note) -> usize
-        ensures { result ≡ (if note.checked then length self.now.loads.entries else 0) }
+    fn load_words(&self, note: &Note) -> usize
+        ensures { result ≡ (if note.now.checked then length self.now.loads.entries else 0) }
     {
         if note.checked {
             self.loads.entries.len()
@@ -81,14 +80,18 @@ impl Teller {
 
     /// The event of an own site is put into its columns.
     #[inline(always)]
-    fn put(&mut self, note: Note, cell: u32, value: i64) -> Result<(), NoMemory>
-        requires fits { Fits self.old note }
-        ensures ok { OnOk result (IsPut note cell value self.old self.new) }
+    fn put(&mut self, note: &Note, cell: u32, value: i64) -> Result<(), NoMemory>
+        requires fits { Fits self.old note.now }
+        ensures ok { OnOk result (IsPut note.now cell value self.old self.new) }
         ensures grown { Grown self.old.own self.new.own }
     {
-        put_done(&mut self.own, note.kind, note.place, cell, value)?;
+        put_done(&mut self.own, note.kind, note.place as usize, cell, value)?;
         if note.checked {
-            put_loads(&mut self.own, note.place, self.loads.entries.as_slice())?;
+            put_loads(
+                &mut self.own,
+                note.place as usize,
+                self.loads.entries.as_slice(),
+            )?;
         }
         Ok(())
     }
@@ -114,11 +117,11 @@ impl Teller {
     }
 
     /// The event of an own site outside of blocks.
-    #[inline(always)]
-    fn tell<'f>(&mut self, frame: Frame<'f>, note: Note, cell: u32, value: i64) -> Answer
-        requires fits { Fits self.old note }
-        ensures adds { (m : Marks) (before : Columned) (h : Held) (event : Event) → IsOwnEvent frame.entry m before self.old note h cell value event →
-            h.block ≡ None → as_assumed frame.entry.program.now frame.entry.plan.now event.site event.effect ≡ true → Adds frame.entry m before h event self.new result }
+    #[inline(never)]
+    fn tell<'f>(&mut self, frame: &Frame<'f>, note: &Note, cell: u32, value: i64) -> Answer
+        requires fits { Fits self.old note.now }
+        ensures adds { (m : Marks) (before : Columned) (h : Held) (event : Event) → IsOwnEvent frame.now m before self.old note.now h cell value event →
+            h.block ≡ None → as_assumed frame.now.program.now frame.now.plan.now event.site event.effect ≡ true → Adds frame.now m before h event self.new result }
         ensures grown { Grown self.old.own self.new.own }
     {
         if self.loads.wanting {
@@ -135,13 +138,13 @@ impl Teller {
 
     /// A store of the block that is running.
     #[inline(always)]
-    fn log_store<'f>(&mut self, frame: Frame<'f>, cell: u32, value: i64) -> Answer
-        ensures { LogsStore frame.entry cell value self.old self.new result }
+    fn log_store<'f>(&mut self, frame: &Frame<'f>, cell: u32, value: i64) -> Answer
+        ensures { LogsStore frame.now cell value self.old self.new result }
     {
         if is_hidden(frame.hidden, cell) {
             return Answer::Goes;
         }
-        match put_store(&mut self.log.stores, cell, value) {
+        match self.log.stores.put(cell, value) {
             Ok(()) => Answer::Goes,
             Err(NoMemory) => Answer::NoMemory,
         }
@@ -151,14 +154,14 @@ impl Teller {
     #[inline(always)]
     pub(crate) fn stored<'f>(
         &mut self,
-        frame: Frame<'f>,
-        note: Note,
+        frame: &Frame<'f>,
+        note: &Note,
         cell: u32,
         value: i64,
     ) -> Answer
-        requires fits { Fits self.old note }
-        ensures adds { (m : Marks) (before : Columned) (h : Held) (event : Event) → IsOwnEvent frame.entry m before self.old note h cell value event →
-            event.effect ≡ effect.Stored cell value → Adds frame.entry m before h event self.new result }
+        requires fits { Fits self.old note.now }
+        ensures adds { (m : Marks) (before : Columned) (h : Held) (event : Event) → IsOwnEvent frame.now m before self.old note.now h cell value event →
+            event.effect ≡ effect.Stored cell value → Adds frame.now m before h event self.new result }
         ensures grown { Grown self.old.own self.new.own }
     {
         if !self.log.running {
@@ -174,14 +177,14 @@ impl Teller {
     #[inline(always)]
     pub(crate) fn decided<'f>(
         &mut self,
-        frame: Frame<'f>,
-        note: Note,
+        frame: &Frame<'f>,
+        note: &Note,
         assumed: bool,
         value: i64,
     ) -> Answer
-        requires fits { Fits self.old note }
-        ensures adds { (m : Marks) (before : Columned) (h : Held) (event : Event) → IsOwnEvent frame.entry m before self.old note h 0 value event →
-            is_store event.effect ≡ false → assumed ≡ as_assumed frame.entry.program.now frame.entry.plan.now event.site event.effect → Adds frame.entry m before h event self.new result }
+        requires fits { Fits self.old note.now }
+        ensures adds { (m : Marks) (before : Columned) (h : Held) (event : Event) → IsOwnEvent frame.now m before self.old note.now h 0 value event →
+            is_store event.effect ≡ false → assumed ≡ as_assumed frame.now.program.now frame.now.plan.now event.site event.effect → Adds frame.now m before h event self.new result }
         ensures grown { Grown self.old.own self.new.own }
     {
         if self.log.running {

@@ -19,8 +19,8 @@ pub(crate) fn by_zero(value: i64, zero: u32, next: usize) -> usize
 /// The turn closes: it did before, or here is a 0 at the region's condition.
 #[inline(always)]
 #[tactic(auto, unfolding(dp_base::specs::Arithmetic::is_zero))]
-pub(crate) fn closes<'p>(frame: Frame<'p>, before: bool, site: SiteId, value: i64) -> bool
-    ensures { result ≡ (before || is_zero_at frame.entry.first site.0 value) }
+pub(crate) fn closes<'p>(frame: &Frame<'p>, before: bool, site: SiteId, value: i64) -> bool
+    ensures { result ≡ (before || is_zero_at frame.now.first site.0 value) }
 {
     before || (site.0 == frame.first && value == 0)
 }
@@ -38,8 +38,8 @@ impl Note {
     /// It goes as assumed that the site's value is this.
     #[inline(always)]
     #[tactic(auto, unfolding(dp_base::specs::Arithmetic::is_zero))]
-    pub(crate) fn goes_as_assumed(self, value: i64) -> bool
-        ensures { result ≡ (if is_zero value then self.when_zero else self.when_other) }
+    pub(crate) fn goes_as_assumed(&self, value: i64) -> bool
+        ensures { result ≡ (if is_zero value then self.now.when_zero else self.now.when_other) }
     {
         if value == 0 {
             self.when_zero

@@ -6,23 +6,23 @@ use Rattle.dp_lean_turn.proofs.Turn.decided.Goals as goal
 pub returns-in-Goes-clause-does : goal.returns-in-Goes-clause-does
 returns-in-Goes-clause-does g c = λ m before st done pending value other assumed.
     let cells = g.M.Memory.cells in
-    let f = c.args.frame in
+    let f = c.args.frame.now in
     let t = c.args.self.now in
     let same : to_z w64 (of_z w64 c.args.value) ≡ c.args.value = search rules in
-    let is = is_event cells f m before t st c.args.note pending c.args.site c.requires.own done 0 (to_z w64 (of_z w64 c.args.value)) (not_cell done other) (value ∙ sym same) in
-    goes cells f m before t st c.args.note pending c.args.site c.requires.own done _ c.args.next f.first
-    (c.in-Goes.ensures.adds m before st.held (event cells f m before t st c.args.note pending c.args.site c.requires.own done) is other assumed)
+    let is = is_event cells f m before t st c.args.note.now pending c.args.site c.requires.own done 0 (to_z w64 (of_z w64 c.args.value)) (not_cell done other) (value ∙ sym same) in
+    goes cells f m before t st c.args.note.now pending c.args.site c.requires.own done _ c.args.next f.first
+    (c.in-Goes.ensures.adds m before st.held (event cells f m before t st c.args.note.now pending c.args.site c.requires.own done) is other assumed)
     c.requires.first (sym (not_changed done (cells t.memory) other)) refl (c.closes-self.ensures ∙ ap (λ (z : ℤ). t.closing || is_zero_at f.first c.args.site.0 z) (same ∙ sym value)) refl
 
 pub returns-in_default : goal.returns-in_default
 returns-in_default g c = record {
   does = λ m before st done pending value other assumed.
       let cells = g.M.Memory.cells in
-      let f = c.args.frame in
+      let f = c.args.frame.now in
       let t = c.args.self.now in
       let same : to_z w64 (of_z w64 c.args.value) ≡ c.args.value = search rules in
-      let is = is_event cells f m before t st c.args.note pending c.args.site c.requires.own done 0 (to_z w64 (of_z w64 c.args.value)) (not_cell done other) (value ∙ sym same) in
-      goes_not cells f m before t st c.args.note pending c.args.site c.requires.own done _ c.args.next c.decided.result c.in_default.not-Goes
-      (c.decided.ensures.adds m before st.held (event cells f m before t st c.args.note pending c.args.site c.requires.own done) is other assumed);
+      let is = is_event cells f m before t st c.args.note.now pending c.args.site c.requires.own done 0 (to_z w64 (of_z w64 c.args.value)) (not_cell done other) (value ∙ sym same) in
+      goes_not cells f m before t st c.args.note.now pending c.args.site c.requires.own done _ c.args.next c.decided.result c.in_default.not-Goes
+      (c.decided.ensures.adds m before st.held (event cells f m before t st c.args.note.now pending c.args.site c.requires.own done) is other assumed);
   keeps = record { own = c.decided.ensures.grown; read = refl };
 }
