@@ -3,7 +3,8 @@
 speed: the program takes it from the length of a region's text. Here it is 1, 2, 3 and 64 wherever a region has no inner loop,
 in four programs that are built for that, unproved (bench/unproved.py).
 
-  checks/caps.py [COUNT [SEED]]    COUNT random programs for each number, 1000 where it isn't given, and the tests' tables
+  checks/caps.py [COUNT [SEED]]    COUNT random programs for each number, 1000 where it isn't given; beside them the
+                                   tests' tables, the examples, and loops with stale reads
 
 Of each the log is compared and what `run --why` writes, and of each tenth random program what is saved before its iterations
 and gone on from. A build takes four minutes of a processor, and is kept as long as no source changes. That it has its number is
@@ -34,17 +35,22 @@ CAPS = (1, 2, 3, 64)
 CAPPING = "crates/dp_lean_region/src/capping.rt"
 CONSTANTS = {"OPS": 1 << 40, "MOST": None}
 KEPT = TOP / "crates/dswp/out/caps"
-LONG = """int sum;
+# A loop of so many iterations, of which each so many-th leaves a stale read to the next one.
+LOOP = """int hits;
+int sum;
 int main() {
   int i = 0;
   #pragma dswp
-  while (i < 3000000) {
+  while (i < %d) {
     i = i + 1;
-    sum = sum + i % 7;
+    sum = sum + hits + i %% 7;
+    if (i %% %d == 0) {
+      hits = hits + 1;
+    }
   }
 }
 """
-LONG_PLAN = "plan 2\nregion 1 words 4096\nseq 2 3\nseq 4\nend\n"
+LOOP_PLAN = "plan 2\nregion 1 words 4096\nseq 2 3\nseq 4\nseq 5 6\nend\n"
 
 
 def forced(text, most):
@@ -87,16 +93,26 @@ def seconds(words):
 
 
 def long_run():
-    """The least time that a long loop takes."""
-    Path("p.c").write_text(LONG)
-    Path("plan.txt").write_text(LONG_PLAN)
-    return min(seconds(["run", "p.c", "--plan", "plan.txt", "--workers", 1, "--fuel", 10**9]) for _ in range(3))
+    """The least time that a long loop without stale reads takes."""
+    Path("p.c").write_text(LOOP % (300_000, 1_000_000))
+    Path("plan.txt").write_text(LOOP_PLAN)
+    return min(seconds(["run", "p.c", "--plan", "plan.txt", "--workers", 1]) for _ in range(3))
+
+
+def cases():
+    """The tests' tables, the examples that have a plan, and loops with stale reads."""
+    yield from worked()
+    for plan in sorted(TOP.glob("examples/**/*.plan")):
+        numbers = plan.with_suffix(".in").read_text().split()
+        yield Case(plan.with_suffix(".c").read_text(), plan.read_text(), [int(it) for it in numbers], 10_000_000)
+    for period in (5, 50, 64, 65):
+        yield Case(LOOP % (700, period), LOOP_PLAN, [], 10_000_000)
 
 
 def compare(count, seed):
     """How many texts were compared, and how many differ."""
     rng, compared, tries = random.Random(seed), Compared(), Tries(random.Random(seed))
-    for case in worked():
+    for case in cases():
         compared.worked_program(rng, case)
     for number in range(count):
         compared.random_program(rng)
