@@ -10,11 +10,13 @@ processor, and the `main` over all of them three more.
     native.py --large SITES     a program of at least so many sites
     native.py --codes ..        proves the code of any of these, and compares nothing
     native.py --apart NAME..    each built by `dswp build`, with a `main` of its own"""
+import os
 import random
 import re
 import subprocess
 import sys
 import tempfile
+from concurrent.futures import ThreadPoolExecutor
 from pathlib import Path
 
 from large_text import large_text
@@ -101,13 +103,24 @@ def differences(folder, stem, program, source):
     """How many runs were compared, and the words at which the native program answers other than `dswp run`."""
     compared, wrong = 0, []
     for number, text in enumerate(inputs(stem)):
-        words = folder / ("input_%d" % number)
+        words = folder / ("%s_input_%d" % (stem, number))
         words.write_text(text)
         for fuel in fuels(spent(program, words)):
             compared += 1
             if run(*program, words, "--fuel", fuel) != run(TOP / "dswp", "run", source, words, "--fuel", fuel):
                 wrong.append("%s: input %d, --fuel %d" % (source.stem, number, fuel))
     return compared, wrong
+
+
+def differences_of(folder, source, program, are_together):
+    """The same, and of a text with another digit where the program takes texts."""
+    runs, found = differences(folder, source.stem, program, source)
+    if are_together:
+        other = source.with_name(source.stem + "_other.c")
+        other.write_text(other_by_a_digit(source.read_text()))
+        more, others = differences(folder, source.stem, [*program[:-1], other], other)
+        runs, found = runs + more, found + others
+    return runs, found
 
 
 def built_apart(folder, sources):
@@ -134,21 +147,18 @@ def built_together(sources):
 
 
 def compare(folder, built, are_together):
-    """Compares all that was built; tells of each program, and answers how many weren't built, and what differs."""
+    """Compares all that was built, several at a time; tells of each program, and answers how many weren't built, and what differs."""
     missing, wrong = 0, []
-    for source, program in built:
-        if program is None:
-            print("not built: " + source.stem, flush=True)
-            missing += 1
-            continue
-        runs, found = differences(folder, source.stem, program, source)
-        if are_together:
-            other = source.with_name("other.c")
-            other.write_text(other_by_a_digit(source.read_text()))
-            more, others = differences(folder, source.stem, [*program[:-1], other], other)
-            runs, found = runs + more, found + ["%s by a digit: %s" % (source.stem, it) for it in others]
-        print("%s: %d runs, %d differ" % (source.stem, runs, len(found)), flush=True)
-        wrong += found
+    with ThreadPoolExecutor(os.cpu_count()) as pool:
+        told = [(source.stem, program and pool.submit(differences_of, folder, source, program, are_together)) for source, program in built]
+        for stem, made in told:
+            if made is None:
+                print("not built: " + stem, flush=True)
+                missing += 1
+                continue
+            runs, found = made.result()
+            print("%s: %d runs, %d differ" % (stem, runs, len(found)), flush=True)
+            wrong += found
     return missing, wrong
 
 
