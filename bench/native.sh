@@ -1,8 +1,10 @@
 #!/usr/bin/env bash
 # Times the examples and loops without marks on 65,536 words: in native code that is proved, as plain C by gcc -O2 that traps
 # where the language faults, by tcc, and under dswp's sequential machine; and the geometric means of the quotients. Each time
-# is the least of nine runs, less that of an empty program under the same runner. The native code of all of them stands in one
-# program (native/together.py), which runs what `dswp build` makes of each. Ends with 1 where two answers differ.
+# is the least of nine runs, less that of an empty program under the same runner. A second line has the means of times less that
+# of an empty program on the same words, so that reading them is no part. A program that one runner is through with in less than
+# a twentieth of a millisecond counts for no mean. The native code of all of them stands in one program (native/together.py),
+# which runs what `dswp build` makes of each. Ends with 1 where two answers differ.
 #
 #   bench/native.sh          all of them; what isn't built yet takes some ten minutes for each ten programs first
 #   bench/native.sh NAME..   those that are named
@@ -51,13 +53,23 @@ for name in "${names[@]}"; do
   many_words "$name" >"$work/words"
   prepare "$name"
   line=$name
+  bare=$name
   run machine "$name" >"$work/answer"
   for runner in native gcc tcc machine; do
     run $runner "$name" | cmp - "$work/answer"
-    line="$line $(net "$(least run $runner "$name")" "${start[$runner]}")"
+    time=$(least run $runner "$name")
+    line="$line $(net "$time" "${start[$runner]}")"
+    bare="$bare $(net "$time" "$(least run $runner empty)")"
   done
   echo "$line"
+  echo "$bare" >>"$work/bare"
 done | tee "$work/times" | awk '{ printf "%-18s %10.2f %10.2f %10.2f %10.2f\n", $1, $2 / 1e6, $3 / 1e6, $4 / 1e6, $5 / 1e6 }'
-awk '{ gcc += log($2 / $3); tcc += log($2 / $4); machine += log($5 / $2); n++ }
-  END { printf "native takes %.2f times gcc, %.2f times tcc; the machine takes %.2f times native", exp(gcc / n), exp(tcc / n), exp(machine / n)
-    printf " (geometric means of %d)\n", n }' "$work/times"
+
+# The geometric means of the quotients of the times in a file.
+means() {
+  awk '$2 > 5e4 && $3 > 5e4 && $4 > 5e4 && $5 > 5e4 { gcc += log($2 / $3); tcc += log($2 / $4); machine += log($5 / $2); n++ }
+    END { printf "native takes %.2f times gcc, %.2f times tcc; the machine takes %.2f times native", exp(gcc / n), exp(tcc / n), exp(machine / n)
+      printf " (geometric means of %d of %d)\n", n, NR }' "$1"
+}
+means "$work/times"
+echo "without reading the words, $(means "$work/bare")"

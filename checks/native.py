@@ -10,11 +10,13 @@ processor, and the `main` over all of them three more.
     native.py --large SITES     a program of at least so many sites
     native.py --codes ..        proves the code of any of these, and compares nothing
     native.py --apart NAME..    each built by `dswp build`, with a `main` of its own"""
+import os
 import random
 import re
 import subprocess
 import sys
 import tempfile
+from concurrent.futures import ThreadPoolExecutor
 from pathlib import Path
 
 from large_text import large_text
@@ -97,16 +99,29 @@ def fuels(steps):
     return sorted({0, 1, 2, 3, steps, *(max(steps * tenth // 10 - 1, 0) for tenth in range(1, 11))})
 
 
-def differences(folder, stem, program, source):
-    """How many runs were compared, and the words at which the native program answers other than `dswp run`."""
-    compared, wrong = 0, []
-    for number, text in enumerate(inputs(stem)):
-        words = folder / ("input_%d" % number)
-        words.write_text(text)
-        for fuel in fuels(spent(program, words)):
-            compared += 1
-            if run(*program, words, "--fuel", fuel) != run(TOP / "dswp", "run", source, words, "--fuel", fuel):
-                wrong.append("%s: input %d, --fuel %d" % (source.stem, number, fuel))
+def beside(source, end, text):
+    """A file beside a source, of this text."""
+    made = source.with_name(source.stem + end)
+    made.write_text(text)
+    return made
+
+
+def differences(source, program, are_together):
+    """How many runs were compared, and the words at which the native program answers other than `dswp run`: of the text, and of
+    one with another digit where the program takes texts. Without its marks a text takes the same steps, in less time."""
+    text, compared, wrong = source.read_text(), 0, []
+    takes_texts = program[:-1] if are_together else [TOP / "dswp", "run"]
+    counts, pairs = [*takes_texts, beside(source, "_plain.c", unmarked(text) or text)], [(program, source)]
+    if are_together:
+        other = beside(source, "_other.c", other_by_a_digit(text))
+        pairs.append(([*takes_texts, other], other))
+    for number, content in enumerate(inputs(source.stem)):
+        words = beside(source, "_input_%d" % number, content)
+        for fuel in fuels(spent(counts, words)):
+            for native, each in pairs:
+                compared += 1
+                if run(*native, words, "--fuel", fuel) != run(TOP / "dswp", "run", each, words, "--fuel", fuel):
+                    wrong.append("%s: input %d, --fuel %d" % (each.stem, number, fuel))
     return compared, wrong
 
 
@@ -133,22 +148,19 @@ def built_together(sources):
         yield source, None if source in together.lost else [program, "run", source]
 
 
-def compare(folder, built, are_together):
-    """Compares all that was built; tells of each program, and answers how many weren't built, and what differs."""
+def compare(built, are_together):
+    """Compares all that was built, several at a time; tells of each program, and answers how many weren't built, and what differs."""
     missing, wrong = 0, []
-    for source, program in built:
-        if program is None:
-            print("not built: " + source.stem, flush=True)
-            missing += 1
-            continue
-        runs, found = differences(folder, source.stem, program, source)
-        if are_together:
-            other = source.with_name("other.c")
-            other.write_text(other_by_a_digit(source.read_text()))
-            more, others = differences(folder, source.stem, [*program[:-1], other], other)
-            runs, found = runs + more, found + ["%s by a digit: %s" % (source.stem, it) for it in others]
-        print("%s: %d runs, %d differ" % (source.stem, runs, len(found)), flush=True)
-        wrong += found
+    with ThreadPoolExecutor(os.cpu_count()) as pool:
+        told = [(source.stem, program and pool.submit(differences, source, program, are_together)) for source, program in built]
+        for stem, made in told:
+            if made is None:
+                print("not built: " + stem, flush=True)
+                missing += 1
+                continue
+            runs, found = made.result()
+            print("%s: %d runs, %d differ" % (stem, runs, len(found)), flush=True)
+            wrong += found
     return missing, wrong
 
 
@@ -177,7 +189,7 @@ def main():
             missing = len(proved_together(sources).lost)
             print("the code of %d of %d programs was proved at once" % (len(sources) - missing, len(sources)))
             return 1 if missing else 0
-        missing, wrong = compare(folder, built_apart(folder, sources) if how == "--apart" else built_together(sources), how == "--together")
+        missing, wrong = compare(built_apart(folder, sources) if how == "--apart" else built_together(sources), how == "--together")
     print("".join("other answers: %s\n" % each for each in wrong), end="")
     print("%d of %d programs were built and proved at once, %d other answers" % (len(sources) - missing, len(sources), len(wrong)))
     return 1 if wrong or missing else 0

@@ -13,6 +13,12 @@ MOST_STEPS = 100_000
 Case = namedtuple("Case", "text plan numbers fuel")
 
 
+def answer_by(program):
+    """Has another program answer than the proved one."""
+    global DSWP
+    DSWP = program
+
+
 def dswp(*words):
     """What is answered, and the status."""
     done = subprocess.run([DSWP, *map(str, words)], stdout=subprocess.PIPE, stderr=subprocess.DEVNULL, timeout=60)

@@ -6,6 +6,7 @@ use Rattle.dp_room.proofs.row.Row.TheSendSync as row
 use Rattle.dp_pipeline.proofs.Crossing.{program_sync, tables_sync}
 use Rattle.dp_prepared.specs.contracts.region.PreparedRegion as Region
 use Rattle.dp_prepared.specs.contracts.region.PreparedRegion.TheInside as RegionInside
+use Rattle.dp_run_plan.proofs.Crossing.{region_sync as run_region_sync}
 use Rattle.dp_run.specs.contracts.prepared.PreparedProgram as Prepared
 use Rattle.dp_run.specs.contracts.prepared.PreparedProgram.TheInside as PreparedInside
 
@@ -19,7 +20,7 @@ region_sync : (a : NamedLft) → IsSync (Region.the_row a)
 region_sync a = let k = region_inside_sync a in search (sendable) depth 60 fits 20000
 
 prepared_field_sync : (a : NamedLft) → IsSync (PreparedInside.the_field a).row
-prepared_field_sync a = let p = program_sync in let r = region_sync a in search (row.the_sync, crossing.crosses, sendable) depth 60 fits 20000
+prepared_field_sync a = let p = program_sync in let r = run_region_sync region_sync a in search (row.the_sync, crossing.crosses, sendable) depth 60 fits 20000
 
 prepared_inside_sync : (a : NamedLft) → IsSync (PreparedInside.the_row a)
 prepared_inside_sync a = recorded_sync (PreparedInside.the_field a).row _ _ (PreparedInside.the_type a).to_one (prepared_field_sync a)

@@ -2,8 +2,8 @@
 ghost use Rattle.std.specs.Prelude.{◌≡◌, ◌≤◌, nat_lt};
 
 use dp_plan::{Plan, StageKind};
-use dp_prepared::PreparedRegion;
 use dp_run::CrewSize;
+use dp_run_plan::RunRegion;
 use std::thread::{Threads, available_parallelism};
 
 /// So many processors are shared where the system doesn't tell how many there are.
@@ -37,7 +37,7 @@ pub(crate) fn processors<R: Threads>(rt: &R) -> usize
 pub(crate) fn share(
     processors: usize,
     runs: usize,
-    regions: &[PreparedRegion<'_>],
+    regions: &[RunRegion<'_>],
     size: CrewSize,
 ) -> Sharing
     requires { 1 ≤ processors }
@@ -62,7 +62,7 @@ pub(crate) fn share(
 }
 
 /// The most threads that a run has at once.
-fn most_threads(regions: &[PreparedRegion<'_>], workers: u32) -> usize
+fn most_threads(regions: &[RunRegion<'_>], workers: u32) -> usize
     ensures { 1 ≤ result }
 {
     let mut most = OTHERS;

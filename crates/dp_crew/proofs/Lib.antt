@@ -4,5 +4,6 @@ pub mod VerdictPrints
 pub mod Answering
 pub mod Recovered
 pub mod EpochRuns
+pub mod FollowRuns
 pub mod WholeRegion
 pub mod Crossing

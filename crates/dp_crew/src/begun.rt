@@ -1,12 +1,14 @@
 //! An epoch from its beginning to its end.
-ghost use Rattle.std.specs.Prelude.{◌<◌, ◌≤◌, ◌-◌, ◌^◌};
+ghost use Rattle.std.specs.Prelude.{◌≡◌, ◌<◌, ◌≤◌, ◌+◌, ◌-◌, ◌^◌, IfOk};
 ghost use Rattle.dp_meaning.specs.MachineState.{MachineState};
-ghost use Rattle.dp_epoch.specs.Applied.{HasRoom};
+ghost use Rattle.dp_epoch.specs.Applied.{HasRoom, left_of};
 ghost use Rattle.dp_epoch.specs.InEpoch.{ToBegin};
-ghost use Rattle.dp_crew.specs.EpochRan.{EpochRan};
+ghost use Rattle.dp_crew.specs.EpochRan.{EpochRan, made_at_least};
 
+use crate::choosing::Way;
 use crate::crew::Crew;
 use crate::epoch::run_epoch;
+use crate::following::follow_ahead;
 use crate::work::Work;
 use dp_commit::{Tally, Watch};
 use dp_edge::{Gate, Sink, WriteFail};
@@ -16,7 +18,8 @@ use dp_stop::StopSetter;
 use std::sync::Wait;
 use std::time::Clock;
 
-/// Runs the epoch that begins behind what is committed.
+/// Follows iterations behind what is committed, by the caller alone and then by threads, where that is to be, and runs the
+/// epoch that begins there.
 pub(crate) fn run_one_epoch<'p, 'v, 'u, E, R: Wait + Clock + Sync, K: Sink, G: Gate, W: Watch>(
     work: Work<'u, '_>,
     crew: &mut Crew<'_, 'u, E, R, G>,
@@ -29,12 +32,52 @@ pub(crate) fn run_one_epoch<'p, 'v, 'u, E, R: Wait + Clock + Sync, K: Sink, G: G
     requires epoch { (first : MachineState) × ToBegin work.region.now.program work.region.now.plan work.input.now first ledger.committed ledger.account }
     requires room { HasRoom tally.old ledger.committed }
     ensures ran { EpochRan (λ first. ToBegin work.entry.region.now.program work.entry.region.now.plan work.entry.input.now first ledger.entry.committed ledger.entry.account) work.entry.region.now.plan ledger.entry result (K.faults sink.old) (K.faults sink.new) (K.written sink.old) (K.written sink.new) tally.old tally.new }
+    ensures falls { IfOk result (λ r. left_of r.0.committed + made_at_least r.1 ≤ left_of ledger.entry.committed) }
+{
+    let followed = follow_ahead(work, Way::Alone, crew, ledger, sink, tally)?;
+    run_behind(work, crew, followed, sink, tally)
+}
+
+/// Follows iterations by threads, where that is to be, and runs the epoch that begins there.
+fn run_behind<'p, 'v, 'u, E, R: Wait + Clock + Sync, K: Sink, G: Gate, W: Watch>(
+    work: Work<'u, '_>,
+    crew: &mut Crew<'_, 'u, E, R, G>,
+    ledger: Ledger<'p, 'v>,
+    sink: &mut K,
+    tally: &mut Tally<W>,
+) -> Result<(Ledger<'p, 'v>, EpochEnd), WriteFail>
+    requires fuel { ledger.committed.machine.fuel ≤ 1000000000 }
+    requires sink { K.faults sink.old < 2 ^ 64 - 1 }
+    requires epoch { (first : MachineState) × ToBegin work.region.now.program work.region.now.plan work.input.now first ledger.committed ledger.account }
+    requires room { HasRoom tally.old ledger.committed }
+    ensures ran { EpochRan (λ first. ToBegin work.entry.region.now.program work.entry.region.now.plan work.entry.input.now first ledger.entry.committed ledger.entry.account) work.entry.region.now.plan ledger.entry result (K.faults sink.old) (K.faults sink.new) (K.written sink.old) (K.written sink.new) tally.old tally.new }
+    ensures falls { IfOk result (λ r. left_of r.0.committed + made_at_least r.1 ≤ left_of ledger.entry.committed) }
+{
+    let followed = follow_ahead(work, Way::Together, crew, ledger, sink, tally)?;
+    run_own_epoch(work, crew, followed, sink, tally)
+}
+
+/// Runs the epoch that begins behind what is committed.
+fn run_own_epoch<'p, 'v, 'u, E, R: Wait + Clock + Sync, K: Sink, G: Gate, W: Watch>(
+    work: Work<'u, '_>,
+    crew: &mut Crew<'_, 'u, E, R, G>,
+    ledger: Ledger<'p, 'v>,
+    sink: &mut K,
+    tally: &mut Tally<W>,
+) -> Result<(Ledger<'p, 'v>, EpochEnd), WriteFail>
+    requires fuel { ledger.committed.machine.fuel ≤ 1000000000 }
+    requires sink { K.faults sink.old < 2 ^ 64 - 1 }
+    requires epoch { (first : MachineState) × ToBegin work.region.now.program work.region.now.plan work.input.now first ledger.committed ledger.account }
+    requires room { HasRoom tally.old ledger.committed }
+    ensures ran { EpochRan (λ first. ToBegin work.entry.region.now.program work.entry.region.now.plan work.entry.input.now first ledger.entry.committed ledger.entry.account) work.entry.region.now.plan ledger.entry result (K.faults sink.old) (K.faults sink.new) (K.written sink.old) (K.written sink.new) tally.old tally.new }
+    ensures falls { IfOk result (λ r. left_of r.0.committed + made_at_least r.1 ≤ left_of ledger.entry.committed) }
 {
     let mut setter = StopSetter::new(work.alloc)?;
     let (begun, lent) = (&ledger, &mut setter);
+    let may_leave = work.may_leave();
     let Pipeline { units, verdicts } = pipeline_here(
         work.alloc,
-        work.region,
+        work.region.region(),
         work.input,
         work.size,
         begun,
@@ -42,7 +85,15 @@ pub(crate) fn run_one_epoch<'p, 'v, 'u, E, R: Wait + Clock + Sync, K: Sink, G: G
     )?;
     let mut polled = verdicts.polling(units);
     crew.begin();
-    let end = run_epoch(crew, work.alloc, &mut polled, ledger, sink, tally);
+    let end = run_epoch(
+        crew,
+        work.alloc,
+        may_leave,
+        &mut polled,
+        ledger,
+        sink,
+        tally,
+    );
     crew.end(setter);
     end
 }

@@ -1,6 +1,7 @@
 //! The threads that a region's units are handed to.
-ghost use Rattle.std.specs.Prelude.{◌≡◌};
+ghost use Rattle.std.specs.Prelude.{◌≡◌, true};
 
+use crate::choosing::{Choice, Way};
 use crate::threads::start;
 use crate::trays::{Tray, lay};
 use dp_edge::Gate;
@@ -9,7 +10,7 @@ use dp_stop::StopSetter;
 use dp_waiting::{Bell, Pause, ring_all, ring_at};
 use std::sync::Wait;
 use std::thread::Scope;
-use std::time::Clock;
+use std::time::{Clock, Duration};
 
 /// So many verdicts of an epoch the caller awaits alone: an epoch that breaks early isn't worth waking threads for.
 const ALONE: u32 = 256;
@@ -27,6 +28,8 @@ pub(crate) struct Crew<'s, 'u, E, R, G> {
     alone: Option<usize>,
     /// How many verdicts of the epoch were awaited.
     awaited: u32,
+    /// Whether the region is run by a run plan, where it has one.
+    choice: Choice,
 }
 
 // By hand, so that it isn't proved again how all that is lent to it is dropped.
@@ -40,6 +43,7 @@ impl<'s, 'u, E, R, G> Drop for Crew<'s, 'u, E, R, G> {
             bells: _,
             alone: _,
             awaited: _,
+            choice: _,
         } = self;
     }
 }
@@ -61,6 +65,7 @@ impl<'s, 'u, E, R: Wait + Clock + Sync, G: Gate> Crew<'s, 'u, E, R, G> {
             bells,
             alone: None,
             awaited: 0,
+            choice: Choice::new(!bells.is_empty()),
         }
     }
 
@@ -69,9 +74,70 @@ impl<'s, 'u, E, R: Wait + Clock + Sync, G: Gate> Crew<'s, 'u, E, R, G> {
         self.rt
     }
 
-    /// An epoch begins, and the caller is alone.
+    /// Whether the region's iterations are to be followed in this way now, if they may be.
+    pub(crate) fn follows(&self, way: Way) -> bool {
+        self.choice.follows(way)
+    }
+
+    /// An epoch of a run plan begins.
+    pub(crate) fn begin_following(&mut self, way: Way) {
+        match way {
+            Way::Alone => {
+                let now = nanoseconds(self.rt);
+                self.choice.begin(now);
+            }
+            Way::Together => self.begin(),
+        }
+    }
+
+    /// One more verdict of a run plan's epoch is awaited.
+    pub(crate) fn await_followed(&mut self, way: Way, verdicts: &mut LaneVerdicts<'u>)
+        ensures { verdicts.new ≡ verdicts.old }
+    {
+        match way {
+            Way::Alone => {}
+            Way::Together => self.await_one(verdicts),
+        }
+    }
+
+    /// One more iteration was followed. Whether the next one is.
+    pub(crate) fn follows_on(&mut self, way: Way) -> bool {
+        match way {
+            Way::Alone => self.choice.follows_on(),
+            Way::Together => self.takes_on(),
+        }
+    }
+
+    /// The epoch of a run plan is over.
+    pub(crate) fn end_following(&mut self, way: Way, setter: StopSetter) {
+        match way {
+            Way::Alone => {
+                let now = nanoseconds(self.rt);
+                self.choice.end(now);
+            }
+            Way::Together => self.end(setter),
+        }
+    }
+
+    /// An epoch of the plan begins, and the caller is alone. Where the plan is tried, its units go to the threads at once.
     pub(crate) fn begin(&mut self) {
-        self.awaited = 0;
+        self.awaited = if self.choice.is_trying() { ALONE } else { 0 };
+    }
+
+    /// One more iteration of the epoch is committed. Whether the epoch is left, if it may be.
+    pub(crate) fn leaves(&mut self, may_leave: bool) -> bool
+        ensures { result ≡ true → may_leave ≡ true }
+    {
+        may_leave && !self.takes_on()
+    }
+
+    fn takes_on(&mut self) -> bool {
+        if self.choice.is_trying() {
+            let now = nanoseconds(self.rt);
+            self.choice.tries_on(now)
+        } else {
+            self.choice.takes_on()
+        }
     }
 
     /// One more verdict of the epoch is awaited. Behind the first ones its units are handed to the threads.
@@ -134,4 +200,18 @@ impl<'s, 'u, E, R: Wait + Clock + Sync, G: Gate> Crew<'s, 'u, E, R, G> {
             bell.close();
         }
     }
+}
+
+/// What the clock shows, or 0 where it fails.
+fn nanoseconds<R: Clock>(rt: &R) -> u64 {
+    match rt.monotonic() {
+        Ok(past) => nanoseconds_of(past),
+        Err(_) => 0,
+    }
+}
+
+fn nanoseconds_of(past: Duration) -> u64 {
+    past.as_secs()
+        .saturating_mul(1_000_000_000)
+        .saturating_add(u64::from(past.subsec_nanos()))
 }

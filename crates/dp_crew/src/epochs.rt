@@ -6,6 +6,7 @@ ghost use Rattle.dp_epoch.specs.Applied.{HasRoom, left_of};
 ghost use Rattle.dp_edge.specs.Writing.{FaultsAfter};
 ghost use Rattle.dp_epoch.specs.InEpoch.{AfterRecovery, EpochEnds, IsUnclean, ToBegin, left_by_epoch, left_by_recovery};
 ghost use Rattle.dp_epoch.specs.Prints.{to_come};
+ghost use Rattle.dp_crew.specs.EpochRan.{made_at_least};
 ghost use Rattle.dp_crew.specs.Output.{Streams};
 ghost use Rattle.dp_epoch.specs.Progress.{RegionDone};
 
@@ -49,7 +50,7 @@ pub(crate) fn run_epochs<'p, 'v, 'u, E, R: Wait + Clock + Sync, K: Sink, G: Gate
     }
 }
 
-/// Goes on behind an epoch that ended so: where an iteration isn't clean, it is executed again.
+/// Goes on behind an epoch that ended so: where an iteration isn't clean, it is executed again. With `None` a new epoch is to begin.
 fn recover<'p, 'v, K: Sink, W: Watch>(
     alloc: Global,
     ledger: Ledger<'p, 'v>,
@@ -65,12 +66,13 @@ fn recover<'p, 'v, K: Sink, W: Watch>(
         Streams result (left_by_epoch plan first ledger.entry.waiting ledger.entry.committed.count end) (λ r. left_by_recovery plan first r.0.waiting r.0.committed.count r.1) (K.written sink.old) (K.written sink.new) }
     ensures counts { IfOk result (λ r. r.0.account.report.iterations + ledger.entry.account.report.recovered_count ≡ ledger.entry.account.report.iterations + r.0.account.report.recovered_count) }
     ensures why { IfOk result (λ r. r.0.account.why ≡ ledger.entry.account.why) }
-    ensures left { IfOk result (λ r. r.1 ≡ None → left_of r.0.committed < left_of ledger.entry.committed) }
+    ensures left { IfOk result (λ r. r.1 ≡ None → left_of r.0.committed + (1 - made_at_least end) ≤ left_of ledger.entry.committed) }
     ensures tally { tally.new ≡ tally.old }
 {
     match end {
         EpochEnd::Closed => Ok((ledger, Some(RegionEnd::Closed))),
         EpochEnd::Unclean => recover_unclean(alloc, ledger, sink, tally),
+        EpochEnd::Left => Ok((ledger, None)),
     }
 }
 

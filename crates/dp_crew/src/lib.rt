@@ -2,9 +2,11 @@
 #![tactic(auto)]
 
 mod begun;
+mod choosing;
 mod crew;
 mod epoch;
 mod epochs;
+mod following;
 mod recover;
 mod region;
 mod settling;

@@ -16,7 +16,7 @@ use dp_edge::{Gate, Sink, WriteFail};
 use dp_epoch::{CrewSize, Ledger, RegionEnd};
 use dp_meaning::Machine;
 use dp_pipeline::bells_for;
-use dp_prepared::PreparedRegion;
+use dp_run_plan::RunRegion;
 use dp_waiting::Bell;
 use std::alloc::Global;
 use std::sync::Wait;
@@ -27,7 +27,7 @@ use std::time::Clock;
 pub fn run_region<'p, R: Threads + Wait + Clock + Sync, K: Sink, G: Gate, W: Watch>(
     rt: &R,
     alloc: Global,
-    region: &PreparedRegion<'_>,
+    region: &RunRegion<'_>,
     input: &'p [i64],
     machine: Machine<'p>,
     size: CrewSize,
@@ -59,13 +59,9 @@ pub fn run_region<'p, R: Threads + Wait + Clock + Sync, K: Sink, G: Gate, W: Wat
 }
 
 /// The bells of the threads that an epoch's units may have, if they may, and of the caller.
-fn bells_of(
-    alloc: Global,
-    region: &PreparedRegion<'_>,
-    size: CrewSize,
-) -> Result<Vec<Bell>, NoMemory> {
+fn bells_of(alloc: Global, region: &RunRegion<'_>, size: CrewSize) -> Result<Vec<Bell>, NoMemory> {
     if !size.threads {
         return Ok(Vec::new(alloc));
     }
-    bells_for(alloc, region, size)
+    bells_for(alloc, region.region(), size)
 }

@@ -1,8 +1,13 @@
 //! What a crew works at.
-ghost use Rattle.std.specs.Prelude.{◌≡◌};
+ghost use Rattle.std.specs.Prelude.{◌≡◌, true};
+ghost use Rattle.std.specs.Option.{IfSome};
+ghost use Rattle.dp_run_plan.specs.Others.{RunsAs};
+ghost use Rattle.dp_run_plan.specs.RunPlan.{hides_nothing};
 
+use crate::choosing::Way;
 use dp_epoch::CrewSize;
 use dp_prepared::PreparedRegion;
+use dp_run_plan::RunRegion;
 use dp_waiting::Bell;
 use std::alloc::Global;
 
@@ -10,7 +15,7 @@ use std::alloc::Global;
 #[derive(Clone, Copy)]
 pub(crate) struct Work<'u, 'p> {
     pub(crate) alloc: Global,
-    pub(crate) region: &'u PreparedRegion<'p>,
+    pub(crate) region: &'u RunRegion<'p>,
     pub(crate) input: &'u [i64],
     pub(crate) size: CrewSize,
     /// One for each unit's thread and one for the caller behind them, or none where the caller is alone.
@@ -20,7 +25,7 @@ pub(crate) struct Work<'u, 'p> {
 impl<'u, 'p> Work<'u, 'p> {
     pub(crate) fn new(
         alloc: Global,
-        region: &'u PreparedRegion<'p>,
+        region: &'u RunRegion<'p>,
         input: &'u [i64],
         size: CrewSize,
         bells: &'u [Bell],
@@ -34,6 +39,26 @@ impl<'u, 'p> Work<'u, 'p> {
             input,
             size,
             bells,
+        }
+    }
+
+    /// The region under the plan by which its iterations are followed in this way, if there is one.
+    pub(crate) fn other(self, way: Way) -> Option<&'u PreparedRegion<'p>>
+        ensures { IfSome result (λ other. RunsAs self.entry.region.now other.now) }
+    {
+        match way {
+            Way::Alone => self.region.other(),
+            Way::Together => self.region.whole(),
+        }
+    }
+
+    /// Whether an epoch of the region may be left anywhere.
+    pub(crate) fn may_leave(self) -> bool
+        ensures { result ≡ true → hides_nothing self.entry.region.now.program self.entry.region.now.plan ≡ true }
+    {
+        match self.region.other() {
+            Some(_) => true,
+            None => false,
         }
     }
 }

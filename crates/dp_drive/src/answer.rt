@@ -16,6 +16,7 @@ use crate::planning::{PlansText, answer_plan};
 use crate::profiling::answer_profile;
 use crate::running::run_to_end;
 use crate::saving::{answer_resume, answer_save};
+use crate::texts::may_choose;
 use crate::writing::{fail_read, refuse};
 use dp_edge::{Gate, Shelf, Sink, WriteFail};
 use dp_load::{Texts, load_texts};
@@ -141,8 +142,9 @@ fn answer_run<
                 size: size_of(run),
                 why: run.why,
             };
+            let chooses = may_choose(run);
             run_to_end(
-                rt, alloc, native, &program, &plans, &input, options, sink, gate, tally,
+                rt, alloc, native, &program, &plans, &input, options, chooses, sink, gate, tally,
             )
         }
         Texts::Refused(refusal) => refuse(alloc, refusal, sink),

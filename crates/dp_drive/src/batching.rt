@@ -8,6 +8,8 @@ ghost use Rattle.dp_words.specs.Run.{RunWithin, shown};
 ghost use Rattle.dp_drive.specs.steps.Carried.{Carried, Finishes};
 
 use crate::logging::size_of;
+use crate::others::run_plans;
+use crate::texts::may_choose;
 use crate::writing::{fail_read, refuse};
 use dp_base::Row;
 use dp_batch::batch;
@@ -67,7 +69,8 @@ fn run_each<R: Threads + Wait + Clock + Sync, K: Sink>(
 {
     let plans = plans.as_slice();
     let inputs = inputs.as_slice();
-    let prepared = PreparedProgram::new(alloc, program, plans)?;
+    let others = run_plans(alloc, program, plans, may_choose(run))?;
+    let prepared = PreparedProgram::new(alloc, program, plans, &others)?;
     let text = batch(rt, alloc, &prepared, inputs, run.fuel, size_of(run))?;
     write(text.as_slice(), sink)?;
     Ok(0)

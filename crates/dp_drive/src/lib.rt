@@ -8,6 +8,7 @@ mod law;
 mod listing;
 mod logging;
 mod made;
+mod others;
 mod planning;
 mod profiling;
 mod running;

@@ -9,6 +9,7 @@ ghost use Rattle.dp_drive.specs.steps.Carried.{Carried, Finishes};
 ghost use Rattle.dp_drive.specs.steps.Given.{MayRun};
 ghost use Rattle.dp_refusal.specs.Refusal.{status_of};
 
+use crate::others::run_plans;
 use crate::texts::RunTexts;
 use crate::writing::{fail_read, refuse};
 use dp_edge::{Shelf, Sink, WriteFail};
@@ -71,7 +72,8 @@ fn write_log<R: Wait + Clock, K: Sink>(
     };
     let plans = texts.plans.as_slice();
     let input = texts.input.as_slice();
-    let prepared = PreparedProgram::new(alloc, texts.program, plans)?;
+    let others = run_plans(alloc, texts.program, plans, false)?;
+    let prepared = PreparedProgram::new(alloc, texts.program, plans, &others)?;
     let end = log_program(rt, alloc, &prepared, input, options, sink)?;
     Ok(end_status(end))
 }

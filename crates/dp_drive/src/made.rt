@@ -98,6 +98,7 @@ fn run_made<R: Threads + Wait + Clock + Sync, K: Sink, G: Gate, W: Watch>(
         plans,
         input,
         options,
+        true,
         sink,
         gate,
         tally,

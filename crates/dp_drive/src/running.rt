@@ -4,6 +4,7 @@ ghost use Rattle.dp_edge.specs.Writing.{FaultsAfter};
 ghost use Rattle.dp_run.specs.Given.{AreGiven};
 ghost use Rattle.dp_drive.specs.steps.Runs.{Runs};
 
+use crate::others::run_plans;
 use dp_base::Row;
 use dp_edge::{Gate, Sink, WriteFail};
 use dp_plan::Plan;
@@ -15,7 +16,7 @@ use std::sync::Wait;
 use std::thread::Threads;
 use std::time::Clock;
 
-/// Runs the program to its end, and gives the status of that.
+/// Runs the program to its end, and gives the status of that. `chooses` says whether regions may be run under other plans.
 pub fn run_to_end<R: Threads + Wait + Clock + Sync, N: NativeCode, K: Sink, G: Gate, W: Watch>(
     rt: &R,
     alloc: Global,
@@ -24,6 +25,7 @@ pub fn run_to_end<R: Threads + Wait + Clock + Sync, N: NativeCode, K: Sink, G: G
     plans: &Row<Plan>,
     input: &Row<i64>,
     options: RunOptions,
+    chooses: bool,
     sink: &mut K,
     gate: &G,
     tally: &mut Tally<W>,
@@ -36,7 +38,9 @@ pub fn run_to_end<R: Threads + Wait + Clock + Sync, N: NativeCode, K: Sink, G: G
     ensures faults { FaultsAfter result (K.faults sink.old) (K.faults sink.new) }
     ensures runs { Runs [] program.now plans.now input.now options.fuel options.why (K.written sink.old) (K.written sink.new) tally.old tally.new result }
 {
-    let prepared = PreparedProgram::new(alloc, program, plans.as_slice())?;
+    let plans = plans.as_slice();
+    let others = run_plans(alloc, program, plans, chooses)?;
+    let prepared = PreparedProgram::new(alloc, program, plans, &others)?;
     let end = run_program(
         rt,
         alloc,

@@ -13,7 +13,8 @@ ghost use Rattle.dp_drive.specs.steps.Saved.{status_at};
 ghost use Rattle.dp_refusal.specs.Refusal.{status_of};
 
 use crate::logging::size_of;
-use crate::texts::RunTexts;
+use crate::others::run_plans;
+use crate::texts::{RunTexts, may_choose};
 use crate::writing::{fail_read, refuse};
 use dp_edge::{Gate, Shelf, Sink, WriteFail};
 use dp_load::{Loaded, Texts, load_checkpoint, load_texts};
@@ -81,7 +82,9 @@ fn save_at<R: Threads + Wait + Clock + Sync, K: Sink, G: Gate>(
         region: place.region,
         after: place.after,
     };
-    let prepared = PreparedProgram::new(alloc, texts.program, texts.plans.as_slice())?;
+    let plans = texts.plans.as_slice();
+    let others = run_plans(alloc, texts.program, plans, may_choose(texts.run))?;
+    let prepared = PreparedProgram::new(alloc, texts.program, plans, &others)?;
     let end = save_program(
         rt,
         alloc,
@@ -174,7 +177,9 @@ fn resume_at<R: Threads + Wait + Clock + Sync, K: Sink, G: Gate>(
     ensures finishes { Finishes (status_of (resumed_run texts.entry.program.now texts.entry.input.now checkpoint).end)
         (resumed_bytes texts.entry.program.now texts.entry.plans.now texts.entry.input.now checkpoint) (K.written sink.old) (K.written sink.new) result }
 {
-    let prepared = PreparedProgram::new(alloc, texts.program, texts.plans.as_slice())?;
+    let plans = texts.plans.as_slice();
+    let others = run_plans(alloc, texts.program, plans, may_choose(texts.run))?;
+    let prepared = PreparedProgram::new(alloc, texts.program, plans, &others)?;
     let mut tally = Tally::new(Unwatched);
     let end = resume_program(
         rt,

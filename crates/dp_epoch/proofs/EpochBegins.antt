@@ -1,5 +1,5 @@
 -- An epoch begins: its own run is the rest of the machine's.
-use Rattle.std.proofs.Common.{◌≡◌, refl, sym, ap, ◌∙◌, subst, inl, inr, ℕ, ◌-◌, ◌<◌, true, false, List, [], ◌∷◌, ◌++◌, filter, cond, Some, ℤ, length, arith}
+use Rattle.std.proofs.Common.{◌≡◌, ◌⊎◌, refl, sym, ap, ◌∙◌, subst, inl, inr, ℕ, ◌-◌, ◌<◌, true, false, List, [], ◌∷◌, ◌++◌, filter, cond, Some, ℤ, length, arith}
 use Rattle.std.proofs.lemmas.Bool.{cases_Bool, and_parts, both_ways}
 use Rattle.std.specs.List.{list_all}
 use Rattle.dp_epoch.specs.declared.account.Account.{Account}
@@ -26,7 +26,8 @@ use Rattle.dp_theorem.proofs.Fitting.{accepted}
 use Rattle.dp_meaning.specs.MachineState.{MachineState, fuel_left, rest_of_run}
 use Rattle.dp_commit.specs.CommittedState.{CommittedState, region_run, steps_of_first}
 use Rattle.dp_meaning.proofs.NextLemmas.{on_region}
-use Rattle.dp_epoch.specs.InEpoch.{BeginsAt, InEpoch, IsKeyOf, ToBegin, key_here}
+use Rattle.dp_run_plan.specs.RunPlan.{hides_nothing}
+use Rattle.dp_epoch.specs.InEpoch.{AtEpoch, BeginsAt, InEpoch, IsKeyOf, ToBegin, key_here}
 use Rattle.dp_epoch.specs.Progress.{Progress}
 use Rattle.dp_epoch.proofs.Here.{at_head, goes_here, at_once, memory_is, stands_there}
 use Rattle.dp_tree.proofs.Heads.{standing_to_do}
@@ -105,7 +106,7 @@ begins_there p plan c fits s on =
     ap (λ (xs : List Stmt). standing p xs c.cells) from ∙ ap (λ (d : Config). standing p s.behind d.cells) here ∙ standing_again p s.behind s.cells ∙ sym here
 
 -- the verdicts of an epoch that begins here
-pub begins_epoch : (key : EpochKey) (first : MachineState) (c : CommittedState) (account : Account) → Progress key.plan first c account → IsKeyOf key first → epoch first.program key.plan (region_run first) c.count ≡ c.count →
+pub begins_epoch : (key : EpochKey) (first : MachineState) (c : CommittedState) (account : Account) → Progress key.plan first c account → IsKeyOf key first → (epoch first.program key.plan (region_run first) c.count ≡ c.count) ⊎ (hides_nothing first.program key.plan ≡ true) →
     key.first ≡ c.count → key.base ≡ c.machine.config.cells → key.steps ≡ c.machine.steps → InEpoch key 0 first c account
 begins_epoch key first c account g k e from base steps =
     let config : epoch_begin key ≡ c.machine.config =
@@ -124,10 +125,19 @@ begins_epoch key first c account g k e from base steps =
           (subst (λ (rest : Run). GoesOnAs key.plan.region c.count (steps_of_first (region_run first) key.plan.region c.count) (region_run first) rest) same (goes_here key.plan first c account g));
       at_once = subst (λ (rest : Run). start rest key.plan.region 0 ≡ Some 0) same (at_once key.plan first c account g);
       place = omega (arith, from);
-      epoch_is = e ∙ sym from;
+      since = λ j low high. absurd (omega (arith, low, high, from));
+      begun = begun_there e;
       state = ap (λ (cells : List ℤ). record { cells = cells; steps = key.steps }) base ∙ ap (λ (n : ℕ). record { cells = c.machine.config.cells; steps = n }) steps;
       gone = λ j h. absurd (omega (arith, h));
     }
+  where
+    begun_there : (epoch first.program key.plan (region_run first) c.count ≡ c.count) ⊎ (hides_nothing first.program key.plan ≡ true) → (epoch first.program key.plan (region_run first) c.count ≡ key.first) ⊎ (hides_nothing first.program key.plan ≡ true)
+    begun_there (inl same) = inl (same ∙ sym from)
+    begun_there (inr hides) = inr hides
+
+-- An epoch may be left where it makes no difference where an epoch begins.
+pub leaves_epoch : (key : EpochKey) (n : ℕ) (first : MachineState) (c : CommittedState) (account : Account) → InEpoch key n first c account → hides_nothing first.program key.plan ≡ true → AtEpoch key.plan first c account
+leaves_epoch key n first c account e hides = record { progress = e.progress; fresh = inr hides }
 
 -- The epoch that begins here, with a key of what is committed. No verdict was given.
 pub epoch_here : (key : EpochKey) (given : ℕ) (first : MachineState) (c : CommittedState) (account : Account) → BeginsAt key given c → ToBegin key.program key.plan key.input first c account → InEpoch key given first c account

@@ -10,9 +10,10 @@ use Rattle.dp_plan.specs.declared.Plan.{Plan}
 use Rattle.dp_tree.specs.Step.{Effect, clear_locals}
 use Rattle.dp_tree.specs.Trace.{Run}
 use Rattle.dp_tree.specs.Iteration.{iteration, is_closing, has_ended, memory_after}
+use Rattle.dp_semantics.specs.Clean.{is_clean}
 use Rattle.dp_semantics.specs.Recovery.{epoch, is_recovered}
 use Rattle.dp_semantics.specs.Judge.{Clean}
-use Rattle.dp_semantics.specs.Verdict.{applied, done_in, effect_in}
+use Rattle.dp_semantics.specs.Verdict.{CleanSince, applied, done_in, effect_in}
 use Rattle.dp_semantics.specs.Reported.{report_of}
 use Rattle.dp_semantics.specs.EpochKey.{EpochKey}
 use Rattle.dp_semantics.specs.EpochVerdicts.{Carried, carried, JudgeState, after_judgement, goes_on, state_at, verdict_at, verdict_by}
@@ -27,6 +28,7 @@ use Rattle.dp_view.specs.Viewed.{Viewed}
 use Rattle.dp_epoch.specs.Accounts.{CountsClean, HearsOn, Reports, after_clean, seen_clean, told_when}
 use Rattle.dp_epoch.specs.Remade.{Remade}
 use Rattle.dp_epoch.specs.Progress.{Watching, again_before, report_before, cause_of}
+use Rattle.dp_run_plan.specs.RunPlan.{hides_nothing}
 use Rattle.dp_epoch.specs.InEpoch.{InEpoch}
 use Rattle.dp_epoch.proofs.Here.{memory_is, leads_here}
 use Rattle.dp_epoch.proofs.Judged.{IsClean}
@@ -135,10 +137,21 @@ module _ (key : EpochKey) (n : ℕ) (first : MachineState) (c : CommittedState) 
             let same : j ≡ n = omega (arith, h, high) in
             ap (λ (k : ℕ). goes_on (verdict_at key k)) same ∙ ap (λ j. goes_on (verdict_by key n j)) q.judged_so ∙ ap not going
 
-    epoch_next : epoch p plan run (i + 1) ≡ key.first
-    epoch_next =
-        let next : i + 1 ≡ suc i = omega arith in
-        ap (epoch p plan run) next ∙ ap (λ (b : Bool). if b then epoch p plan run i else suc i) q.clean ∙ e.epoch_is
+    since_next : CleanSince p plan run key.first (i + 1)
+    since_next j low high = by (cases_lt j i)
+      where
+        by : (j < i) ⊎ (i ≤ j) → is_clean p plan run key.first j ≡ true
+        by (inl less) = e.since j low less
+        by (inr more) = let same : j ≡ i = omega (arith, high, more) in ap (is_clean p plan run key.first) same ∙ q.since
+
+    begun_next : (epoch p plan run (i + 1) ≡ key.first) ⊎ (hides_nothing p plan ≡ true)
+    begun_next = by e.begun
+      where
+        by : (epoch p plan run i ≡ key.first) ⊎ (hides_nothing p plan ≡ true) → (epoch p plan run (i + 1) ≡ key.first) ⊎ (hides_nothing p plan ≡ true)
+        by (inl same) =
+            let next : i + 1 ≡ suc i = omega arith in
+            inl (ap (epoch p plan run) next ∙ ap (λ (b : Bool). if b then epoch p plan run i else suc i) q.clean ∙ same)
+        by (inr hides) = inr hides
 
     -- The epoch goes on.
     pub epoch_on : (more : Account) → Reports more (report_before plan first (i + 1)) → Watching plan first (i + 1) more.why more.views → InEpoch key (n + 1) first (one_more plan first c account e.progress turns before after m) more
@@ -149,7 +162,8 @@ module _ (key : EpochKey) (n : ℕ) (first : MachineState) (c : CommittedState) 
       own = e.own;
       at_once = e.at_once;
       place = omega (arith, e.place);
-      epoch_is = epoch_next;
+      since = since_next;
+      begun = begun_next;
       state = state_next;
       gone = gone_next;
     }

@@ -10,9 +10,8 @@ use Rattle.dp_tree.specs.Trace.{Run}
 use Rattle.dp_tree.specs.Iteration.{start, has_ended, is_closing, memory_after}
 use Rattle.dp_tree.proofs.InMain.{stays_in_main}
 use Rattle.dp_plan.specs.declared.Plan.{Plan}
-use Rattle.dp_semantics.specs.Recovery.{epoch}
-use Rattle.dp_semantics.specs.Verdict.{Judged, Follows}
-use Rattle.dp_theorem.proofs.Fitting.{fitting_closes, fitting_epochs, fitting_leads}
+use Rattle.dp_semantics.specs.Verdict.{Follows}
+use Rattle.dp_theorem.proofs.Fitting.{fitting_closes, fitting_leads}
 use Rattle.dp_meaning.specs.declared.ends.Part.TheVariants as part
 use Rattle.dp_meaning.specs.MachineState.{MachineState, fuel_left, rest_of_run, part_from, part_of, from_region}
 use Rattle.dp_commit.specs.CommittedState.{CommittedState, ClosesOnce, Holds, region_run, steps_of_first}
@@ -83,9 +82,6 @@ module _ (plan : Plan) (first : MachineState) (c : CommittedState) (account : Ac
 
   pub memory_is : c.machine.config.cells ≡ memory_after run plan.region c.count
   memory_is = g.holds.memory ∙ ap (λ (r : ℕ). memory_after run r c.count) g.region
-
-  pub judged_here : Judged first.program plan first.input run (epoch first.program plan run c.count) c.count made
-  judged_here = fitting_epochs first.program plan g.start.fits first.input (fuel_left first) first.config g.start.stands c.count made starts_here
 
   pub leads_here : has_ended run plan.region c.count ≡ true → is_closing run plan.region c.count ≡ false → Follows first.program plan.region run c.count made
   leads_here ended going_on = fitting_leads first.program plan g.start.fits first.input (fuel_left first) first.config g.start.stands c.count made starts_here ended going_on

@@ -20,4 +20,5 @@ pub mod Reexecuted
 pub mod EpochLemmas
 pub mod Starting
 pub mod RegionLemmas
+pub mod OtherEpoch
 pub mod rows

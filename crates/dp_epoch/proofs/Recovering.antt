@@ -198,10 +198,10 @@ module _ (plan : Plan) (first : MachineState) (c : CommittedState) (account : Ac
         let begun = step_left new.machine s.call.events s.call.moved.run.fuel (s.call.stops.some g.is_open.between) in
         subst (λ (t : CommittedState). AtEpoch plan first t more) (sym s.rest) (record {
           progress = advanced plan first c account g s.turns [] printed new.machine s.call more (told_begun again new printed None s more seen heard q begun) (watching_next again new printed None s more seen heard q s begun);
-          fresh =
-              (let next : c.count + 1 ≡ suc c.count = omega arith in ap (epoch first.program plan (region_run first)) next)
+          fresh = inl
+              ((let next : c.count + 1 ≡ suc c.count = omega arith in ap (epoch first.program plan (region_run first)) next)
               ∙ ap (λ (b : Bool). if b then epoch first.program plan (region_run first) c.count else suc c.count) (not-true (is_clean first.program plan (region_run first) (epoch first.program plan (region_run first) c.count) c.count) again)
-              ∙ (let back : suc c.count ≡ c.count + 1 = omega arith in back);
+              ∙ (let back : suc c.count ≡ c.count + 1 = omega arith in back));
         })
     recovered new printed (Some region_end.Closed) s heard q =
         subst (λ (t : CommittedState). RegionDone plan first t more region_end.Closed) (sym s.rest)

@@ -1,5 +1,5 @@
 -- A region starts as the caller gives it: an inlined program, a valid plan of it, and the machine at the plan's region. Its first epoch begins there.
-use Rattle.std.proofs.Common.{◌≡◌, refl, sym, ap, ◌∙◌, subst, ℕ, ◌-◌, true, List, [], ℤ, Option, Some, slice_get, arith}
+use Rattle.std.proofs.Common.{◌≡◌, inl, refl, sym, ap, ◌∙◌, subst, ℕ, ◌-◌, true, List, [], ℤ, Option, Some, slice_get, arith}
 use Rattle.std.proofs.lemmas.List.Elements.{All-nil}
 use Rattle.dp_tree.specs.declared.Program.{Program}
 use Rattle.dp_tree.specs.InMain.{StandsInMain}
@@ -70,5 +70,5 @@ region_starts plan first s account is watching =
         report_is = is;
         views_are = watching;
       };
-      fresh = refl;
+      fresh = inl refl;
     }

@@ -1,5 +1,5 @@
 -- An epoch under way: the verdicts so far were Clean, and their iterations are committed.
-use Rattle.std.specs.Prelude.{◌≡◌, ℕ, ◌+◌, ◌<◌, true, List, ℤ, Option, Some, None}
+use Rattle.std.specs.Prelude.{◌≡◌, ◌⊎◌, ℕ, ◌+◌, ◌<◌, true, List, ℤ, Option, Some, None}
 use Rattle.dp_plan.specs.declared.Plan.{Plan}
 use Rattle.dp_tree.specs.declared.Program.{Program}
 use Rattle.dp_tree.specs.GoesOn.{GoesOnAs}
@@ -7,11 +7,13 @@ use Rattle.dp_tree.specs.Iteration.{start, memory_after}
 use Rattle.dp_semantics.specs.Recovery.{epoch, is_recovered}
 use Rattle.dp_semantics.specs.EpochKey.{EpochKey, epoch_run}
 use Rattle.dp_semantics.specs.EpochVerdicts.{goes_on, state_at, verdict_at}
+use Rattle.dp_semantics.specs.Verdict.{CleanSince}
+use Rattle.dp_run_plan.specs.RunPlan.{hides_nothing}
 use Rattle.dp_meaning.specs.MachineState.{MachineState}
 use Rattle.dp_commit.specs.CommittedState.{CommittedState, region_run, steps_of_first}
 use Rattle.dp_epoch.specs.declared.account.Account.{Account}
 use Rattle.dp_epoch.specs.declared.ends.EpochEnd.{EpochEnd}
-use Rattle.dp_epoch.specs.declared.ends.EpochEnd.TheVariants.{Closed, Unclean}
+use Rattle.dp_epoch.specs.declared.ends.EpochEnd.TheVariants.{Closed, Left, Unclean}
 use Rattle.dp_epoch.specs.declared.ends.RegionEnd.{RegionEnd}
 use Rattle.dp_epoch.specs.declared.ends.RegionEnd.TheVariants as region_end
 use Rattle.dp_epoch.specs.Prints.{to_come}
@@ -32,7 +34,9 @@ pub record InEpoch (key : EpochKey) (n : ℕ) (first : MachineState) (c : Commit
   pub own : GoesOnAs key.plan.region key.first (steps_of_first (region_run first) key.plan.region key.first) (region_run first) (epoch_run key)
   pub at_once : start (epoch_run key) key.plan.region 0 ≡ Some 0
   pub place : c.count ≡ key.first + n
-  pub epoch_is : epoch first.program key.plan (region_run first) c.count ≡ key.first
+  pub since : CleanSince first.program key.plan (region_run first) key.first c.count
+  -- the region's epochs begin one here, or it makes no difference where an epoch begins
+  pub begun : (epoch first.program key.plan (region_run first) c.count ≡ key.first) ⊎ (hides_nothing first.program key.plan ≡ true)
   pub state : state_at key n ≡ record { cells = c.machine.config.cells; steps = c.machine.steps }
   pub gone : (j : ℕ) → j < n → goes_on (verdict_at key j) ≡ true
 
@@ -41,20 +45,22 @@ pub record IsUnclean (plan : Plan) (first : MachineState) (c : CommittedState) (
   pub progress : Progress plan first c account
   pub again : is_recovered first.program plan (region_run first) c.count ≡ true
 
--- how the epoch ends: the region is closed, or the next iteration is to be executed again
+-- A new epoch may begin: the region goes on, and the next iteration is the first of its epoch, or any may be.
+pub record AtEpoch (plan : Plan) (first : MachineState) (c : CommittedState) (account : Account) : Type 0 where
+  pub progress : Progress plan first c account
+  pub fresh : (epoch first.program plan (region_run first) c.count ≡ c.count) ⊎ (hides_nothing first.program plan ≡ true)
+
+-- how the epoch ends: the region is closed, the next iteration is to be executed again, or a new epoch may begin
 abbrev pub EpochEnds : Plan → MachineState → CommittedState → Account → EpochEnd → Type 0
 EpochEnds plan first c account Closed = RegionDone plan first c account region_end.Closed
 EpochEnds plan first c account Unclean = IsUnclean plan first c account
+EpochEnds plan first c account Left = AtEpoch plan first c account
 
 -- what is left to be written at the epoch's end
 abbrev pub left_by_epoch : Plan → MachineState → List ℤ → ℕ → EpochEnd → List ℤ
 left_by_epoch plan first waiting n Closed = waiting
 left_by_epoch plan first waiting n Unclean = to_come plan first waiting n
-
--- A new epoch is to begin: the region goes on, and the next iteration is the first of its epoch.
-pub record AtEpoch (plan : Plan) (first : MachineState) (c : CommittedState) (account : Account) : Type 0 where
-  pub progress : Progress plan first c account
-  pub fresh : epoch first.program plan (region_run first) c.count ≡ c.count
+left_by_epoch plan first waiting n Left = to_come plan first waiting n
 
 -- .. in a run of this program on this input
 pub record ToBegin (p : Program) (plan : Plan) (input : List ℤ) (first : MachineState) (c : CommittedState) (account : Account) : Type 0 where

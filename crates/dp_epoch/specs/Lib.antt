@@ -6,3 +6,4 @@ pub mod Accounts
 pub mod Progress
 pub mod InEpoch
 pub mod Taken
+pub mod Followed

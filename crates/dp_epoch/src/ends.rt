@@ -19,4 +19,6 @@ pub enum EpochEnd {
     Closed,
     /// The next iteration isn't clean, and is to be executed again.
     Unclean,
+    /// It was left before its end, and a new one may begin here.
+    Left,
 }

@@ -19,6 +19,9 @@ const OPS: u64 = 2_048;
 /// How many iterations go together at most.
 const MOST: u64 = 64;
 
+/// .. and of a region with an inner loop: no text tells then how much is told in an iteration.
+const LOOPED: u64 = 8;
+
 /// Whether an op goes back to an earlier one, as those behind a loop's body do.
 fn turns_back(code: &[LeanOp]) -> bool {
     for (place, op) in code.iter().enumerate() {
@@ -31,17 +34,14 @@ fn turns_back(code: &[LeanOp]) -> bool {
     false
 }
 
-/// By the judge's code: the fewer, the longer it is; and one by one where it has an inner loop, since no text tells then how much
-/// is told in an iteration.
+/// By the judge's code: the fewer, the longer it is, and a few where it has an inner loop.
 fn cap_by(code: &[LeanOp]) -> u64
     ensures some { 1 ≤ result }
     ensures most { result ≤ 64 }
 {
-    if turns_back(code) {
-        return 1;
-    }
     let count = (code.len() as u64).max(1);
-    (OPS / count).max(1).min(MOST)
+    let most = if turns_back(code) { LOOPED } else { MOST };
+    (OPS / count).max(1).min(most)
 }
 
 /// How many iterations of the region go together at most, where this is the judge's code.

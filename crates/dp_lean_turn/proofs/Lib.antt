@@ -13,9 +13,11 @@ pub mod Finishing
 pub mod OwnBlocks
 pub mod Moving
 pub mod Following
+pub mod Deeds
 pub mod Evaluations
 pub mod ValueCode
 pub mod LeanOrder
 pub mod NotesMade
+pub mod StepsMade
 pub mod CheckedPlaces
 pub mod BlockPlaces

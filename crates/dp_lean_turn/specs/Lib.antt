@@ -1,4 +1,5 @@
 pub mod Notes
+pub mod Deeds
 pub mod Told
 pub mod Left
 pub mod Leading

@@ -1,11 +1,9 @@
 //! Small tests of values.
-ghost use Rattle.std.specs.Prelude.{◌≡◌, ◌||◌, ◌≤◌, ◌<◌, ◌-◌, true, false, if◌then◌else◌};
+ghost use Rattle.std.specs.Prelude.{◌≡◌, ◌||◌, ◌&&◌, ◌≤◌, ◌<◌, ◌-◌, true, false, if◌then◌else◌};
 ghost use Rattle.dp_base.specs.Arithmetic.{is_zero};
 ghost use Rattle.dp_code.specs.FlatRun as run;
-ghost use Rattle.dp_semantics.specs.StageRun.{is_zero_at};
 
-use crate::{Frame, Note};
-use dp_base::SiteId;
+use crate::Note;
 
 /// The first place at 0, and else the second.
 #[inline(always)]
@@ -16,13 +14,15 @@ pub(crate) fn by_zero(value: i64, zero: u32, next: usize) -> usize
     if value == 0 { zero as usize } else { next }
 }
 
-/// The turn closes: it did before, or here is a 0 at the region's condition.
+/// The turn closes where a 0 comes to the region's condition.
 #[inline(always)]
 #[tactic(auto, unfolding(dp_base::specs::Arithmetic::is_zero))]
-pub(crate) fn closes<'p>(frame: &Frame<'p>, before: bool, site: SiteId, value: i64) -> bool
-    ensures { result ≡ (before || is_zero_at frame.now.first site.0 value) }
+pub(crate) fn close(closing: &mut bool, note: &Note, value: i64)
+    ensures { closing.new ≡ (closing.old || note.now.closes && is_zero value) }
 {
-    before || (site.0 == frame.first && value == 0)
+    if note.closes {
+        *closing = *closing || value == 0;
+    }
 }
 
 /// The cell is one of so many from the first on.

@@ -14,7 +14,7 @@ use dp_base::{End, Row};
 use dp_edge::{Sink, WriteFail};
 use dp_epoch::CrewSize;
 use dp_meaning::Machine;
-use dp_prepared::PreparedRegion;
+use dp_run_plan::RunRegion;
 use std::alloc::Global;
 use std::sync::Wait;
 use std::time::Clock;
@@ -24,7 +24,7 @@ use std::time::Clock;
 pub(crate) fn log_parts<'p, R: Wait + Clock, K: Sink>(
     rt: &R,
     alloc: Global,
-    regions: &[PreparedRegion<'_>],
+    regions: &[RunRegion<'_>],
     input: &'p [i64],
     mut machine: Machine<'p>,
     size: CrewSize,

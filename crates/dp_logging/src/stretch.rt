@@ -14,7 +14,7 @@ use dp_base::{End, NoMemory, Row};
 use dp_edge::{Sink, WriteFail};
 use dp_epoch::{CrewSize, RegionEnd};
 use dp_meaning::Machine;
-use dp_prepared::PreparedRegion;
+use dp_run_plan::RunRegion;
 use std::alloc::Global;
 use std::sync::Wait;
 use std::time::Clock;
@@ -24,7 +24,7 @@ use std::time::Clock;
 pub(crate) fn log_stretch<'p, R: Wait + Clock, K: Sink>(
     rt: &R,
     alloc: Global,
-    region: &PreparedRegion<'_>,
+    region: &RunRegion<'_>,
     input: &'p [i64],
     machine: Machine<'p>,
     size: CrewSize,
@@ -41,7 +41,7 @@ pub(crate) fn log_stretch<'p, R: Wait + Clock, K: Sink>(
         Streams result (out.old ++ region_bytes region.now.program region.now.plan run) (λ _. out.new) (K.written sink.old) (K.written sink.new) }
 {
     let number = region.number();
-    let runner = Runner::begin(alloc, region, input, machine, size)?;
+    let runner = Runner::begin(alloc, region.region(), input, machine, size)?;
     let (next, end) = log_runner(rt, runner, number, out, sink)?;
     let passed = pass_plain(alloc, next, end)?;
     Ok(passed)

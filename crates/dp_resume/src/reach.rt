@@ -19,7 +19,7 @@ use dp_crew::{flush, flush_if_many};
 use dp_edge::{Sink, WriteFail};
 use dp_epoch::{CrewSize, RegionEnd};
 use dp_meaning::{IterEnd, Machine};
-use dp_prepared::PreparedRegion;
+use dp_run_plan::RunRegion;
 use std::alloc::Global;
 use std::sync::Wait;
 use std::time::Clock;
@@ -101,7 +101,7 @@ where
 pub(crate) fn reach<'p, R: Wait + Clock, K: Sink>(
     rt: &R,
     alloc: Global,
-    region: &PreparedRegion<'_>,
+    region: &RunRegion<'_>,
     input: &'p [i64],
     machine: Machine<'p>,
     size: CrewSize,
@@ -116,7 +116,7 @@ pub(crate) fn reach<'p, R: Wait + Clock, K: Sink>(
     ensures written { IfOk result (λ ran. Emits (to_come machine.entry) (to_come ran.0) (K.written sink.old) (K.written sink.new)) }
     ensures front { OnErr result (WritesFront (prints_bytes (spec.prints_until (region_run machine.entry) (start (region_run machine.entry) region.now.plan.region after))) (K.written sink.old) (K.written sink.new)) }
 {
-    let mut runner = Runner::begin(alloc, region, input, machine, size)?;
+    let mut runner = Runner::begin(alloc, region.region(), input, machine, size)?;
     let end = make(rt, alloc, &mut runner, after, sink)?;
     let (machine, report) = runner.settle();
     Ok((machine, report, end))

@@ -14,7 +14,7 @@ use dp_commit::{Tally, Watch};
 use dp_edge::{Gate, Sink, WriteFail};
 use dp_epoch::CrewSize;
 use dp_meaning::{Machine, NativeCode};
-use dp_prepared::PreparedRegion;
+use dp_run_plan::RunRegion;
 use std::alloc::Global;
 use std::sync::Wait;
 use std::thread::Threads;
@@ -27,7 +27,7 @@ pub fn run_parts<'p, R: Threads + Wait + Clock + Sync, N: NativeCode, K: Sink, G
     rt: &R,
     alloc: Global,
     native: &N,
-    regions: &[PreparedRegion<'_>],
+    regions: &[RunRegion<'_>],
     input: &'p [i64],
     mut machine: Machine<'p>,
     size: CrewSize,

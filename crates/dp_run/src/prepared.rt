@@ -1,11 +1,12 @@
 //! A program that is ready to be run.
-ghost use Rattle.std.specs.Prelude.{◌≡◌, map, IfOk};
+ghost use Rattle.std.specs.Prelude.{◌≡◌, Bool, map, IfOk};
 ghost use Rattle.dp_prepared.specs.Planned.{prepared_of};
+ghost use Rattle.dp_run_plan.specs.Others.{AreOthers};
 ghost use Rattle.dp_run.specs.Given.{AreGiven};
 
 use dp_base::{NoMemory, Row};
 use dp_plan::Plan;
-use dp_prepared::{PreparedRegion, prepare};
+use dp_run_plan::{RunPlans, RunRegion, prepare};
 use dp_tree::Program;
 use std::alloc::Global;
 use std::marker::Model;
@@ -13,7 +14,7 @@ use std::marker::Model;
 /// A program and its regions, each ready to be run under its plan. It is made once, for all runs.
 pub struct PreparedProgram<'p> {
     program: &'p Program,
-    regions: Row<PreparedRegion<'p>>,
+    regions: Row<RunRegion<'p>>,
 }
 
 // By hand, so that a crate above doesn't prove again how all that it holds is dropped.
@@ -43,16 +44,18 @@ impl<'p> Model for PreparedProgram<'p> {
 }
 
 impl<'p> PreparedProgram<'p> {
-    /// The program with these plans, one for each of its regions.
+    /// The program with these plans, one for each of its regions, and with the run plans of these.
     pub fn new(
         alloc: Global,
         program: &'p Program,
         plans: &'p [Plan],
+        others: &'p RunPlans,
     ) -> Result<PreparedProgram<'p>, NoMemory>
-        requires { AreGiven program.now plans.now }
+        requires given { AreGiven program.now plans.now }
+        requires others { AreOthers program.now plans.now others.now }
         ensures { IfOk result (λ made. made ≡ record { program = program.now; plans = plans.now }) }
     {
-        let regions = prepare(alloc, program, plans)?;
+        let regions = prepare(alloc, program, plans, others)?;
         Ok(PreparedProgram { program, regions })
     }
 
@@ -64,7 +67,7 @@ impl<'p> PreparedProgram<'p> {
     }
 
     /// The regions, in order.
-    pub fn regions(&self) -> &[PreparedRegion<'p>]
+    pub fn regions(&self) -> &[RunRegion<'p>]
         ensures { result.now ≡ map (prepared_of self.now.program) self.now.plans }
     {
         self.regions.as_slice()

@@ -18,7 +18,7 @@ use dp_crew::run_region;
 use dp_edge::{Gate, Sink, WriteFail};
 use dp_epoch::{CrewSize, RegionEnd, nothing_counted};
 use dp_meaning::{Machine, NativeCode};
-use dp_prepared::PreparedRegion;
+use dp_run_plan::RunRegion;
 use std::alloc::Global;
 use std::sync::Wait;
 use std::thread::Threads;
@@ -29,7 +29,7 @@ pub fn run_stretch<'p, R: Threads + Wait + Clock + Sync, N: NativeCode, K: Sink,
     rt: &R,
     alloc: Global,
     native: &N,
-    region: &PreparedRegion<'_>,
+    region: &RunRegion<'_>,
     input: &'p [i64],
     machine: Machine<'p>,
     size: CrewSize,

@@ -7,7 +7,7 @@ use Rattle.dp_epoch.specs.InEpoch.{InEpoch}
 use Rattle.dp_epoch.specs.Taken.{Takes}
 use Rattle.dp_epoch.proofs.EpochLemmas.{report_here}
 use Rattle.dp_crew.proofs.StreamLemmas.{emits_front, emits_nothing, emits_on, emits_stopped}
-use Rattle.dp_crew.proofs.EpochRuns.{failed_so, stopped}
+use Rattle.dp_crew.proofs.EpochRuns.{failed_so, left_anywhere, stopped}
 use Rattle.dp_crew.proofs.VerdictPrints.{emits_taken, front_of_taken}
 use Rattle.dp_crew.proofs.epoch.run_epoch.Goals as goal
 
@@ -21,14 +21,14 @@ take-requires-clause-epoch g c =
 
 pub returns-in_err-taken-clause-ran : goal.returns-in_err-taken-clause-ran
 returns-in_err-taken-clause-ran g c =
-    stopped _ _ _ _ _ _ _ _ _ _ c.from_residual.ensures.0
+    stopped _ _ _ _ _ _ _ _ _ _ _ _ c.from_residual.ensures.0
     (failed_so c.from_residual.result _ _ _ _ c.from_residual.ensures.1 refl c.verdicts.invariant.faults)
     (λ first e. emits_stopped _ _ _ _ (c.verdicts.invariant.emits first e))
 
 pub returns-in_err-flush_if_many-clause-ran : goal.returns-in_err-flush_if_many-clause-ran
 returns-in_err-flush_if_many-clause-ran g c =
     let t = subst (λ (k : EpochKey). Takes k c.verdicts.verdicts.given c.verdicts.ledger c.take.new.ledger c.in_ok-taken.taken c.verdicts.tally c.take.new.tally) c.verdicts.invariant.key (subst (λ (v : Coming). Takes v.key v.given c.verdicts.ledger c.take.new.ledger c.in_ok-taken.taken c.verdicts.tally c.take.new.tally) c.await_one.ensures c.in_ok-taken.ensures.taken) in
-    stopped _ _ _ _ _ _ _ _ _ _ c.from_residual-in_err-flush_if_many.ensures.0
+    stopped _ _ _ _ _ _ _ _ _ _ _ _ c.from_residual-in_err-flush_if_many.ensures.0
     (failed_so c.from_residual-in_err-flush_if_many.result _ _ _ _ c.from_residual-in_err-flush_if_many.ensures.1 c.in_err-flush_if_many.ensures.faults c.verdicts.invariant.faults)
     (λ first e. emits_front _ _ _ _ _ (c.verdicts.invariant.emits first e)
     (front_of_taken _ _ first _ _ _ _ _ t (c.verdicts.invariant.epoch first e) _ _ c.in_err-flush_if_many.ensures.streams))
@@ -55,6 +55,45 @@ verdicts-preserved g c =
       emits = λ first e. emits_on _ _ _ _ _ _ (c.verdicts.invariant.emits first e)
           (emits_taken _ _ first _ _ _ _ _ t (c.verdicts.invariant.epoch first e) _ _ _ c.in_ok-flush_if_many.ensures.streams);
       faults = c.in_ok-flush_if_many.ensures.faults ∙ c.verdicts.invariant.faults;
+    }
+
+pub returns-in-Closed-clause-falls : goal.returns-in-Closed-clause-falls
+returns-in-Closed-clause-falls g c =
+    let less = c.in_ok-taken.ensures.taken.left in
+    let left = c.verdicts.invariant.left in
+    omega (arith, less, left)
+
+pub returns-in-Unclean-clause-falls : goal.returns-in-Unclean-clause-falls
+returns-in-Unclean-clause-falls g c =
+    let less = c.in_ok-taken.ensures.taken.left in
+    let left = c.verdicts.invariant.left in
+    omega (arith, less, left)
+
+pub returns-then-leaves-clause-falls : goal.returns-then-leaves-clause-falls
+returns-then-leaves-clause-falls g c =
+    let less = c.in_ok-taken.ensures.taken.falls c.in-Committed.is in
+    let left = c.verdicts.invariant.left in
+    omega (arith, less, left)
+
+pub returns-then-leaves-clause-ran : goal.returns-then-leaves-clause-ran
+returns-then-leaves-clause-ran g c =
+    let t = subst (λ (x : Taken). Takes c.args.verdicts.now.key c.verdicts.verdicts.given c.verdicts.ledger c.take.new.ledger x c.verdicts.tally c.take.new.tally) c.in-Committed.is
+    (subst (λ (k : EpochKey). Takes k c.verdicts.verdicts.given c.verdicts.ledger c.take.new.ledger c.in_ok-taken.taken c.verdicts.tally c.take.new.tally) c.verdicts.invariant.key (subst (λ (v : Coming). Takes v.key v.given c.verdicts.ledger c.take.new.ledger c.in_ok-taken.taken c.verdicts.tally c.take.new.tally) c.await_one.ensures c.in_ok-taken.ensures.taken)) in
+    let balance = c.verdicts.invariant.tally in
+    let left = c.verdicts.invariant.left in
+    let counted = t.counted in
+    let less = t.left in
+    let hides = c.requires.leaving (c.leaves.ensures c.if-leaves.true) in
+    record {
+      faults_are = c.in_ok-flush_if_many.ensures.faults ∙ c.verdicts.invariant.faults;
+      ends = λ first e. left_anywhere _ _ first _ _ (t.stands first (c.verdicts.invariant.epoch first e)) hides;
+      streams = λ first e. emits_on _ _ _ _ _ _ (c.verdicts.invariant.emits first e)
+          (emits_taken _ _ first _ _ _ _ _ t (c.verdicts.invariant.epoch first e) _ _ _ c.in_ok-flush_if_many.ensures.streams);
+      report = t.report ∙ ap (λ (x : RegionReport). record x { iterations = c.take.new.ledger.committed.count }) c.verdicts.invariant.report;
+      why = t.why ∙ c.verdicts.invariant.why;
+      counted = omega (arith, counted, balance);
+      room = t.room;
+      left = omega (arith, less, left);
     }
 
 pub returns-in-Closed-clause-ran : goal.returns-in-Closed-clause-ran

@@ -5,6 +5,7 @@ use Rattle.dp_epoch.specs.declared.ends.EpochEnd.{EpochEnd}
 use Rattle.dp_epoch.specs.declared.ends.RegionEnd.{RegionEnd}
 use Rattle.dp_epoch.specs.declared.ledger.Ledger.{Ledger}
 use Rattle.dp_epoch.specs.InEpoch.{AfterRecovery, EpochEnds, IsUnclean, left_by_epoch}
+use Rattle.dp_epoch.specs.Prints.{to_come}
 use Rattle.dp_crew.specs.Output.{Emits}
 use Rattle.dp_crew.proofs.Answering.{if_ok}
 use Rattle.dp_crew.proofs.StreamLemmas.{emits_nothing}
@@ -20,3 +21,7 @@ returns-in-Unclean-clause-ok g c =
     (λ (r : Ledger × Option RegionEnd). (plan : Plan) (first : MachineState) → IsUnclean plan first c.args.ledger.committed c.args.ledger.account → AfterRecovery plan first r.0.committed r.0.account r.1)
     (λ (r : Ledger × Option RegionEnd). (plan : Plan) (first : MachineState) → EpochEnds plan first c.args.ledger.committed c.args.ledger.account c.args.end → AfterRecovery plan first r.0.committed r.0.account r.1)
     (λ r told plan first h. told plan first (subst (λ (x : EpochEnd). EpochEnds plan first c.args.ledger.committed c.args.ledger.account x) c.in-Unclean.is h)) c.recover_unclean.ensures.ok
+
+pub returns-in-Left-clause-streams : goal.returns-in-Left-clause-streams
+returns-in-Left-clause-streams g c plan first h =
+    subst (λ (x : EpochEnd). Emits (left_by_epoch plan first c.args.ledger.waiting c.args.ledger.committed.count x) (to_come plan first c.args.ledger.waiting c.args.ledger.committed.count) (g.K.Sink.written c.args.sink.now) (g.K.Sink.written c.args.sink.now)) (sym c.in-Left.is) (emits_nothing _ _)

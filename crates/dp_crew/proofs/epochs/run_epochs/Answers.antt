@@ -11,6 +11,9 @@ use Rattle.dp_crew.proofs.epochs.run_epochs.Goals as goal
 pub epochs-init : goal.epochs-init
 epochs-init g c = record { begins = λ first b. b; tally = omega arith; why = refl; room = c.requires.room; emits = λ first b. emits_nothing _ _; faults = refl }
 
+pub run_one_epoch-requires-clause-epoch : goal.run_one_epoch-requires-clause-epoch
+run_one_epoch-requires-clause-epoch g c κs within = (c.requires.start.0, c.epochs.invariant.begins c.requires.start.0 c.requires.start.1)
+
 pub recover-requires-clause-ended : goal.recover-requires-clause-ended
 recover-requires-clause-ended g c = (c.args.work.region.now.plan, c.requires.start.0, c.in_ok-after.ensures.ran.ends c.requires.start.0 (c.epochs.invariant.begins c.requires.start.0 c.requires.start.1))
 
@@ -98,8 +101,8 @@ epochs-preserved g c =
 pub epochs-smaller : goal.epochs-smaller
 epochs-smaller g c =
     let less = c.in_ok-next.ensures.left c.in-None.is in
-    let left = c.in_ok-after.ensures.ran.left in
-    omega (arith, less, left)
+    let falls = c.in_ok-after.ensures.falls in
+    omega (arith, less, falls)
 
 pub returns-in-Some-clause-why : goal.returns-in-Some-clause-why
 returns-in-Some-clause-why g c = c.in_ok-next.ensures.why ∙ c.in_ok-after.ensures.ran.why ∙ c.epochs.invariant.why

@@ -1,5 +1,5 @@
-use Rattle.std.proofs.Common.{◌≡◌, ◌∙◌, sym, ap, refl, ◌||◌, ℤ, w64, to_z, of_z, rules}
-use Rattle.dp_semantics.specs.StageRun.{is_zero_at}
+use Rattle.std.proofs.Common.{◌≡◌, ◌∙◌, sym, ap, refl, ◌||◌, ◌&&◌, ℤ, w64, to_z, of_z, rules}
+use Rattle.dp_base.specs.Arithmetic.{is_zero}
 use Rattle.dp_lean_turn.proofs.Owns.{event, is_event, goes, goes_not, not_cell, not_changed}
 use Rattle.dp_lean_turn.proofs.Turn.decided.Goals as goal
 
@@ -10,9 +10,9 @@ returns-in-Goes-clause-does g c = λ m before st done pending value other assume
     let t = c.args.self.now in
     let same : to_z w64 (of_z w64 c.args.value) ≡ c.args.value = search rules in
     let is = is_event cells f m before t st c.args.note.now pending c.args.site c.requires.own done 0 (to_z w64 (of_z w64 c.args.value)) (not_cell done other) (value ∙ sym same) in
-    goes cells f m before t st c.args.note.now pending c.args.site c.requires.own done _ c.args.next f.first
+    goes cells f m before t st c.args.note.now pending c.args.site c.requires.own done _ c.args.next
     (c.in-Goes.ensures.adds m before st.held (event cells f m before t st c.args.note.now pending c.args.site c.requires.own done) is other assumed)
-    c.requires.first (sym (not_changed done (cells t.memory) other)) refl (c.closes-self.ensures ∙ ap (λ (z : ℤ). t.closing || is_zero_at f.first c.args.site.0 z) (same ∙ sym value)) refl
+    (sym (not_changed done (cells t.memory) other)) refl (c.close.ensures ∙ ap (λ (z : ℤ). t.closing || c.args.note.now.closes && is_zero z) (same ∙ sym value)) refl
 
 pub returns-in_default : goal.returns-in_default
 returns-in_default g c = record {

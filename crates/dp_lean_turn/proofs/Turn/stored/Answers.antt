@@ -1,6 +1,6 @@
-use Rattle.std.proofs.Common.{◌≡◌, ◌∙◌, sym, ap, refl, ◌||◌, ℤ, set, w64, to_z, of_z, rules}
+use Rattle.std.proofs.Common.{◌≡◌, ◌∙◌, sym, ap, refl, ◌||◌, ◌&&◌, ℤ, set, w64, to_z, of_z, rules}
 use Rattle.dp_tree.specs.Step.{Stored}
-use Rattle.dp_semantics.specs.StageRun.{is_zero_at}
+use Rattle.dp_base.specs.Arithmetic.{is_zero}
 use Rattle.dp_lean_turn.proofs.Owns.{event, is_event, goes, goes_not}
 use Rattle.dp_lean_turn.proofs.Turn.stored.Goals as goal
 
@@ -12,9 +12,9 @@ returns-in-Ok-clause-does g c = λ m before st pending.
     let same : to_z w64 (of_z w64 c.args.value) ≡ c.args.value = search rules in
     let effect = Stored c.args.cell c.args.value in
     let is = is_event cells f m before t st c.args.note.now pending c.args.site c.requires.own effect c.args.cell (to_z w64 (of_z w64 c.args.value)) refl (sym same) in
-    goes cells f m before t st c.args.note.now pending c.args.site c.requires.own effect _ c.args.next f.first
+    goes cells f m before t st c.args.note.now pending c.args.site c.requires.own effect _ c.args.next
     (c.in-Goes.ensures.adds m before st.held (event cells f m before t st c.args.note.now pending c.args.site c.requires.own effect) is (ap (Stored c.args.cell) (sym same)))
-    c.requires.first (c.in-Ok.ensures ∙ ap (set (cells t.memory) c.args.cell) same) refl (c.closes-self.ensures ∙ ap (λ (z : ℤ). t.closing || is_zero_at f.first c.args.site.0 z) same) refl
+    (c.in-Ok.ensures ∙ ap (set (cells t.memory) c.args.cell) same) refl (c.close.ensures ∙ ap (λ (z : ℤ). t.closing || c.args.note.now.closes && is_zero z) same) refl
 
 pub returns-in_default : goal.returns-in_default
 returns-in_default g c = record {

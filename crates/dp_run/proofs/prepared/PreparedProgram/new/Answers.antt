@@ -9,7 +9,7 @@ invariant_of-result c =
     let p = c.args.program.now in
     let plans = c.args.plans.now in
     let regions = c.in_ok-regions.regions in (
-      subst (λ (xs : List Plan). AreGiven p xs) (sym (plans_are p plans regions c.in_ok-regions.ensures)) c.requires,
+      subst (λ (xs : List Plan). AreGiven p xs) (sym (plans_are p plans regions c.in_ok-regions.ensures)) c.requires.given,
       of_program p plans regions c.in_ok-regions.ensures,
     )
 

@@ -1,0 +1,2 @@
+pub mod RunPlan
+pub mod Others
