@@ -1,16 +1,16 @@
 //! Whether a region's iterations are followed by its run plan, or go by the plan itself: by the clock.
 
 /// So many iterations are followed before the plan is tried.
-const FOLLOWED: u32 = 1_024;
+const FOLLOWED: u32 = 4_096;
 
 /// The first so many of an epoch are not timed: its units go to their threads, and the lanes between them are filled.
-const SETTLING: u32 = 512;
+const SETTLING: u32 = 2_048;
 
 /// The plan is tried for so many verdicts at most.
 const TRIED: u32 = 1_024;
 
 /// The first so many of these fill its pipeline.
-const FILLING: u32 = 128;
+const FILLING: u32 = 256;
 
 /// What was quicker goes on for so many verdicts.
 const SPAN: u32 = 65_536;
