@@ -18,7 +18,7 @@ use dp_stop::StopSetter;
 use std::sync::Wait;
 use std::time::Clock;
 
-/// Follows iterations behind what is committed, by the caller alone and then by threads, where that is to be, and runs the
+/// Follows iterations behind what is committed, by the one-stage form and then by a plan that keeps inner loops whole, where that is to be, and runs the
 /// epoch that begins there.
 pub(crate) fn run_one_epoch<'p, 'v, 'u, E, R: Wait + Clock + Sync, K: Sink, G: Gate, W: Watch>(
     work: Work<'u, '_>,
@@ -34,11 +34,11 @@ pub(crate) fn run_one_epoch<'p, 'v, 'u, E, R: Wait + Clock + Sync, K: Sink, G: G
     ensures ran { EpochRan (λ first. ToBegin work.entry.region.now.program work.entry.region.now.plan work.entry.input.now first ledger.entry.committed ledger.entry.account) work.entry.region.now.plan ledger.entry result (K.faults sink.old) (K.faults sink.new) (K.written sink.old) (K.written sink.new) tally.old tally.new }
     ensures falls { IfOk result (λ r. left_of r.0.committed + made_at_least r.1 ≤ left_of ledger.entry.committed) }
 {
-    let followed = follow_ahead(work, Way::Alone, crew, ledger, sink, tally)?;
+    let followed = follow_ahead(work, Way::OneStage, crew, ledger, sink, tally)?;
     run_behind(work, crew, followed, sink, tally)
 }
 
-/// Follows iterations by threads, where that is to be, and runs the epoch that begins there.
+/// Follows iterations by a plan that keeps inner loops whole, where that is to be, and runs the epoch that begins there.
 fn run_behind<'p, 'v, 'u, E, R: Wait + Clock + Sync, K: Sink, G: Gate, W: Watch>(
     work: Work<'u, '_>,
     crew: &mut Crew<'_, 'u, E, R, G>,
@@ -53,7 +53,7 @@ fn run_behind<'p, 'v, 'u, E, R: Wait + Clock + Sync, K: Sink, G: Gate, W: Watch>
     ensures ran { EpochRan (λ first. ToBegin work.entry.region.now.program work.entry.region.now.plan work.entry.input.now first ledger.entry.committed ledger.entry.account) work.entry.region.now.plan ledger.entry result (K.faults sink.old) (K.faults sink.new) (K.written sink.old) (K.written sink.new) tally.old tally.new }
     ensures falls { IfOk result (λ r. left_of r.0.committed + made_at_least r.1 ≤ left_of ledger.entry.committed) }
 {
-    let followed = follow_ahead(work, Way::Together, crew, ledger, sink, tally)?;
+    let followed = follow_ahead(work, Way::WholeLoops, crew, ledger, sink, tally)?;
     run_own_epoch(work, crew, followed, sink, tally)
 }
 

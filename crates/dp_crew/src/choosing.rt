@@ -1,13 +1,16 @@
 //! Whether a region's iterations are followed by its run plan, or go by the plan itself: by the clock.
 
 /// So many iterations are followed before the plan is tried.
-const FOLLOWED: u32 = 256;
+const FOLLOWED: u32 = 4_096;
+
+/// The first so many of an epoch are not timed: its units go to their threads, and the lanes between them are filled.
+const SETTLING: u32 = 2_048;
 
 /// The plan is tried for so many verdicts at most.
 const TRIED: u32 = 1_024;
 
 /// The first so many of these fill its pipeline.
-const FILLING: u32 = 128;
+const FILLING: u32 = 256;
 
 /// What was quicker goes on for so many verdicts.
 const SPAN: u32 = 65_536;
@@ -24,10 +27,10 @@ const SLACK: u64 = 100_000;
 /// How a region's iterations are followed.
 #[derive(Clone, Copy)]
 pub(crate) enum Way {
-    /// By the one-stage form of its plan, which the caller polls alone.
-    Alone,
-    /// By a plan that keeps inner loops whole, whose units have threads.
-    Together,
+    /// By the one-stage form of its plan.
+    OneStage,
+    /// By a plan that keeps inner loops whole.
+    WholeLoops,
 }
 
 /// What is known of a region's speed, and what comes of it: so many iterations are followed, then so many verdicts of the plan
@@ -45,8 +48,9 @@ pub(crate) struct Choice {
     /// How many iterations were followed since the last trial, and in how many nanoseconds.
     followed: u32,
     spent: u64,
-    /// How many of these belong to the epoch under way.
+    /// How many iterations of the epoch under way were followed, and behind how many of them it is timed.
     here: u32,
+    settled: u32,
     /// The plan is tried, and so many of its verdicts came.
     trying: bool,
     tried: u32,
@@ -66,6 +70,7 @@ impl Choice {
             followed: 0,
             spent: 0,
             here: 0,
+            settled: 0,
             trying: false,
             tried: 0,
             begun: 0,
@@ -76,8 +81,8 @@ impl Choice {
     /// Whether iterations are followed in this way now.
     pub(crate) fn follows(&self, way: Way) -> bool {
         match way {
-            Way::Alone => self.to_take == 0,
-            Way::Together => self.to_take > 1,
+            Way::OneStage => self.to_take == 0,
+            Way::WholeLoops => self.to_take > 1,
         }
     }
 
@@ -89,6 +94,18 @@ impl Choice {
     /// An epoch of the run plan begins now.
     pub(crate) fn begin(&mut self, now: u64) {
         self.here = 0;
+        self.settled = 0;
+        self.begun = now;
+    }
+
+    /// Whether the epoch of the run plan is timed from here on.
+    pub(crate) fn settles(&self) -> bool {
+        self.here == SETTLING
+    }
+
+    /// It is timed from now on.
+    pub(crate) fn settle(&mut self, now: u64) {
+        self.settled = self.here;
         self.begun = now;
     }
 
@@ -100,7 +117,8 @@ impl Choice {
 
     /// The epoch of the run plan is over now. At least one verdict of the plan comes.
     pub(crate) fn end(&mut self, now: u64) {
-        self.followed = self.followed.saturating_add(self.here);
+        let timed = self.here.saturating_sub(self.settled);
+        self.followed = self.followed.saturating_add(timed);
         self.spent = self.spent.saturating_add(now.saturating_sub(self.begun));
         self.to_take = 1;
         if self.here >= self.to_follow {

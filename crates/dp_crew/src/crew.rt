@@ -82,41 +82,39 @@ impl<'s, 'u, E, R: Wait + Clock + Sync, G: Gate> Crew<'s, 'u, E, R, G> {
     /// An epoch of a run plan begins.
     pub(crate) fn begin_following(&mut self, way: Way) {
         match way {
-            Way::Alone => {
+            Way::OneStage => {
+                self.awaited = 0;
                 let now = nanoseconds(self.rt);
                 self.choice.begin(now);
             }
-            Way::Together => self.begin(),
-        }
-    }
-
-    /// One more verdict of a run plan's epoch is awaited.
-    pub(crate) fn await_followed(&mut self, way: Way, verdicts: &mut LaneVerdicts<'u>)
-        ensures { verdicts.new ≡ verdicts.old }
-    {
-        match way {
-            Way::Alone => {}
-            Way::Together => self.await_one(verdicts),
+            Way::WholeLoops => self.begin(),
         }
     }
 
     /// One more iteration was followed. Whether the next one is.
     pub(crate) fn follows_on(&mut self, way: Way) -> bool {
         match way {
-            Way::Alone => self.choice.follows_on(),
-            Way::Together => self.takes_on(),
+            Way::OneStage => self.goes_on(),
+            Way::WholeLoops => self.takes_on(),
         }
+    }
+
+    fn goes_on(&mut self) -> bool {
+        let on = self.choice.follows_on();
+        if self.choice.settles() {
+            let now = nanoseconds(self.rt);
+            self.choice.settle(now);
+        }
+        on
     }
 
     /// The epoch of a run plan is over.
     pub(crate) fn end_following(&mut self, way: Way, setter: StopSetter) {
-        match way {
-            Way::Alone => {
-                let now = nanoseconds(self.rt);
-                self.choice.end(now);
-            }
-            Way::Together => self.end(setter),
+        if let Way::OneStage = way {
+            let now = nanoseconds(self.rt);
+            self.choice.end(now);
         }
+        self.end(setter);
     }
 
     /// An epoch of the plan begins, and the caller is alone. Where the plan is tried, its units go to the threads at once.

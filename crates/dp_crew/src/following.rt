@@ -99,7 +99,6 @@ fn is_planned(region: &PreparedRegion<'_>)
 /// Awaits the next verdict of the other plan's epoch, and takes it.
 fn follow_next<'u, E, R: Wait + Clock + Sync, G: Gate, W: Watch>(
     crew: &mut Crew<'_, 'u, E, R, G>,
-    way: Way,
     alloc: Global,
     words: u32,
     verdicts: &mut LaneVerdicts<'u>,
@@ -113,7 +112,7 @@ fn follow_next<'u, E, R: Wait + Clock + Sync, G: Gate, W: Watch>(
     ensures followed { IfOk result (λ followed. Follows words verdicts.old.key verdicts.old.given ledger.old ledger.new followed tally.old tally.new) }
 {
     let rt = crew.rt();
-    crew.await_followed(way, verdicts);
+    crew.await_one(verdicts);
     follow(alloc, rt, verdicts, words, ledger, tally)
 }
 
@@ -135,7 +134,7 @@ fn follow_verdicts<'p, 'v, 'u, E, R: Wait + Clock + Sync, K: Sink, G: Gate, W: W
     ensures followed { (plan : Plan) → words ≡ plan.words → HasFollowed (λ first. IsFollowed plan verdicts.old.key verdicts.old.given first ledger.entry.committed ledger.entry.account) plan ledger.entry result (K.faults sink.old) (K.faults sink.new) (K.written sink.old) (K.written sink.new) tally.old tally.new }
 {
     'verdicts: loop {
-        let followed = follow_next(crew, way, alloc, words, verdicts, &mut ledger, tally)?;
+        let followed = follow_next(crew, alloc, words, verdicts, &mut ledger, tally)?;
         flush_if_many(alloc, &mut ledger.waiting, sink)?;
         match followed {
             Followed::Committed => {

@@ -47,8 +47,8 @@ impl<'u, 'p> Work<'u, 'p> {
         ensures { IfSome result (λ other. RunsAs self.entry.region.now other.now) }
     {
         match way {
-            Way::Alone => self.region.other(),
-            Way::Together => self.region.whole(),
+            Way::OneStage => self.region.other(),
+            Way::WholeLoops => self.region.whole(),
         }
     }
 
