@@ -14,6 +14,7 @@ pub mod OwnBlocks
 pub mod Moving
 pub mod Following
 pub mod Deeds
+pub mod GoingOn
 pub mod Evaluations
 pub mod ValueCode
 pub mod LeanOrder
