@@ -27,7 +27,7 @@ sys.dont_write_bytecode = True
 sys.path.insert(0, str(TOP / "native"))
 from together import Together
 
-MOST_FUEL = 10**8
+MOST_FUEL = 10**7
 
 
 def run(*words):
