@@ -1,6 +1,6 @@
 #!/usr/bin/env python3
 """Compares runs in which another number of iterations goes together with log_model.py, byte for byte. That number is a matter of
-speed: the program takes it from the length of a region's text. Here it is 1, 2, 3 and 64 wherever a region has no inner loop,
+speed: the program takes it from the length of a region's text, and from whether that has an inner loop. Here it is 1, 2, 3 and 64,
 in four programs that are built for that, unproved (bench/unproved.py).
 
   checks/caps.py [COUNT [SEED]]    COUNT random programs for each number, 1000 where it isn't given; beside them the
@@ -33,7 +33,7 @@ from crates import crates_of
 
 CAPS = (1, 2, 3, 64)
 CAPPING = "crates/dp_lean_region/src/capping.rt"
-CONSTANTS = {"OPS": 1 << 40, "MOST": None}
+CONSTANTS = {"OPS": 1 << 40, "MOST": None, "LOOPED": None}
 KEPT = TOP / "crates/dswp/out/caps"
 # A loop of so many iterations, of which each so many-th leaves a stale read to the next one.
 LOOP = """int hits;
