@@ -4,6 +4,7 @@
 #   a replicated stage of some two thousand operators an iteration, by 1, 2 and 3 workers, beside the same loop unmarked:
 #   in an inner loop, with three words for each six operators, which stages and the judge go through as well, for twenty,
 #   and for sixty; and in statements one behind the other, with a word for each sixty-one;
+#   two hundred iterations of 82,000 operators each, in an inner loop, without a plan that is named;
 #   a loop beside a memory of 1,000 cells and of 65,536.
 # Each time is the least of nine runs, less the time of an empty program under the same runner; the tables' are less the
 # time of the same program on an empty input, which writes as many values.
@@ -79,6 +80,17 @@ heavy_rows 'two thousand operators, sixty a turn' turning 32 "x$sixty + turns" 2
 cp words.in heavy.in
 plan 'seq 2 3 4' "par $(seq -s ' ' 5 37)" 'seq 38' >heavy.plan
 heavy_rows 'two thousand operators, sixty-one a statement' straight 33 "$sixty" 131923968
+
+# Few iterations of many operators each, as they are run without a plan that is named.
+words 200 65536 >few.in
+turning '' 1300 "x$sixty + turns" >unmarked.c
+turning '#pragma dswp' 1300 "x$sixty + turns" >few.c
+alone=$(net "$(least "$dswp" run unmarked.c few.in --fuel 1000000000)" "$nothing")
+row 'two hundred iterations of 82,000 operators, unmarked' "$alone" "$(ratio "$alone" 16380000) ns an operator"
+for workers in 2 3; do
+  ours=$(net "$(least "$dswp" run few.c few.in --workers $workers --fuel 1000000000)" "$nothing")
+  row "  by default, workers: $workers" "$ours" "$(ratio "$alone" "$ours") times as fast"
+done
 
 words 20000 1000 >indices.in
 for cells in 1000 65536; do

@@ -16,7 +16,6 @@ import os
 import random
 import re
 import resource
-import subprocess
 import sys
 import tempfile
 from pathlib import Path
@@ -24,17 +23,14 @@ from pathlib import Path
 sys.dont_write_bytecode = True
 import logs
 import worked_runs
-from native_unproved import TOP, copy_of_crates
+from forced_builds import TOP, built
 from random_runs import RandomRun
 from saved_runs import Tries
 from worked_runs import Case, dswp, worked
 
-from crates import crates_of
-
 CAPS = (1, 2, 3, 64)
 CAPPING = "crates/dp_lean_region/src/capping.rt"
 CONSTANTS = {"OPS": 1 << 40, "MOST": None, "LOOPED": None}
-KEPT = TOP / "crates/dswp/out/caps"
 # A loop of so many iterations, of which each so many-th leaves a stale read to the next one.
 LOOP = """int hits;
 int sum;
@@ -53,27 +49,15 @@ int main() {
 LOOP_PLAN = "plan 2\nregion 1 words 4096\nseq 2 3\nseq 4\nseq 5 6\nend\n"
 
 
-def forced(text, most):
+def capped(most):
     """The source with so many iterations as the most, however long a text is."""
+    text = (TOP / CAPPING).read_text()
     for name, value in CONSTANTS.items():
         text, count = re.subn(r"(?m)^const %s: u64 = [\d_]+;$" % name, "const %s: u64 = %d;" % (name, value or most), text)
         uses = len(re.findall(r"\b%s\b" % name, text)) - count
         if (count, uses) != (1, 1):
             sys.exit("%s has %d definitions of %s, and %d uses: caps.py is to follow it" % (CAPPING, count, name, uses))
-    return text
-
-
-def built(most, total):
-    """The program in which so many iterations go together, which is kept by a sum of the sources."""
-    program = KEPT / ("%d-%s" % (most, total))
-    if not program.exists():
-        KEPT.mkdir(parents=True, exist_ok=True)
-        with tempfile.TemporaryDirectory() as name:
-            folder = Path(name)
-            copy_of_crates(folder)
-            (folder / CAPPING).write_text(forced((TOP / CAPPING).read_text(), most))
-            subprocess.run([sys.executable, TOP / "bench/unproved.py", program, folder], stderr=subprocess.DEVNULL)
-    return program if program.exists() else sys.exit("the program with at most %d iterations wasn't built" % most)
+    return {CAPPING: text}
 
 
 class Compared(logs.Compared):
@@ -125,10 +109,10 @@ def compare(count, seed):
 def main():
     count = int(sys.argv[1]) if len(sys.argv) > 1 else 1000
     seed = int(sys.argv[2]) if len(sys.argv) > 2 else 1
-    total, differ, programs, times = crates_of(TOP)["dswp"].sum(b""), 0, [], []
+    differ, programs, times = 0, [], []
     with tempfile.TemporaryDirectory() as folder:
         for most in CAPS:
-            programs.append(built(most, total))
+            programs.append(built("at_most_%d" % most, capped(most)))
             os.chdir(folder)
             worked_runs.answer_by(programs[-1])
             times.append(long_run())

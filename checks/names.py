@@ -1,10 +1,9 @@
 #!/usr/bin/env python3
-"""Lists the names of specifications that stand for different things in two crates: two definitions of one name whose texts
-differ. What is passed on by `pub use` or has an alias is no definition, and what stands in specs/steps is a crate's own.
-names.txt has those that may stand, each behind a reason. Ends with 1 where there is another name; tells which of the list stand
-for one thing by now.
+"""Lists the names of specifications that stand for different things in two crates, each with its places: two definitions of one
+name whose texts differ. What is passed on by `pub use` or has an alias is no definition, and what stands in specs/steps is a crate's own.
+Ends with 1 where there is one.
 
-  checks/names.py [--all]    with --all each name is listed with its places
+  checks/names.py
 """
 import sys
 from collections import defaultdict
@@ -12,8 +11,6 @@ from pathlib import Path
 
 sys.dont_write_bytecode = True
 from definitions import CRATES, antt
-
-LIST = Path(__file__).resolve().with_name("names.txt")
 
 
 def definitions():
@@ -38,28 +35,13 @@ def several():
             yield name, found
 
 
-def listed():
-    """The names of the list, each with its reason: a line `# reason`, and the names behind it."""
-    reason, found = "", {}
-    for line in LIST.read_text().splitlines():
-        if line.startswith("# "):
-            reason = line[2:]
-        else:
-            found.update((name, reason) for name in line.split())
-    return found
-
-
 def main():
-    names, may = dict(several()), listed()
-    new = sorted(set(names) - set(may))
-    gone = sorted(set(may) - set(names))
-    for name in sorted(names) if "--all" in sys.argv else new:
+    names = dict(several())
+    for name in names:
         print(name, *sorted(definition.place for definition in names[name]), sep="\n  ")
-    for name in gone:
-        print(f"{name} stands for one thing alone: take it off the list")
     crates = [len({crate_of(definition) for definition in found}) for found in names.values()]
-    print(f"{len(names)} names stand for different things in {sum(crates)} places, {len(new)} of them aren't listed")
-    return 1 if new else 0
+    print(f"{len(names)} names stand for different things in {sum(crates)} places")
+    return 1 if names else 0
 
 
 if __name__ == "__main__":

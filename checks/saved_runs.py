@@ -47,7 +47,7 @@ def without_again(text):
 
 class Tries:
     def __init__(self, rng):
-        self.rng, self.count, self.workers = rng, Counter(), itertools.cycle(WORKERS)
+        self.rng, self.count, self.workers, self.options = rng, Counter(), itertools.cycle(WORKERS), []
 
     def compare(self, what, case, got, wanted):
         self.count["compared"] += 1
@@ -75,13 +75,13 @@ class Tries:
         Path("plan.txt").write_text(case.plan)
         program, plans = Program(case.text), read_plans(case.plan)
         run = Run(program, plans, case.numbers, case.fuel)
-        whole = dswp("run", "p.c", "in.txt", "--plan", "plan.txt", "--fuel", case.fuel)
+        whole = dswp("run", "p.c", "in.txt", "--plan", "plan.txt", "--fuel", case.fuel, *self.options)
         self.compare("run", case, whole, (run.text(), run.status()))
         for region, after in places or self.places(run):
             self.place(case, program, plans, whole, region, after)
 
     def place(self, case, program, plans, whole, region, after):
-        words = ["--plan", "plan.txt", "--fuel", case.fuel, "--region", region, "--after", after, "--workers", next(self.workers)]
+        words = ["--plan", "plan.txt", "--fuel", case.fuel, "--region", region, "--after", after, "--workers", next(self.workers), *self.options]
         what, wanted = "save %s" % words, saved(program, plans, case.numbers, case.fuel, region, after)
         self.compare(what, case, dswp("save", "p.c", "in.txt", *words), wanted)
         front, mark, rest = wanted[0].partition("checkpoint 1\n")
@@ -102,7 +102,7 @@ class Tries:
         Path("checkpoint.txt").write_text(checkpoint)
         for workers in crews:
             self.count["resumed"] += 1
-            got = dswp("resume", "p.c", "checkpoint.txt", "in.txt", "--plan", "plan.txt", "--workers", workers)
+            got = dswp("resume", "p.c", "checkpoint.txt", "in.txt", "--plan", "plan.txt", "--workers", workers, *self.options)
             self.compare("%s, resume with %d workers\n%s" % (what, workers, checkpoint), case, got, wanted)
 
     def made_up(self, program, text):

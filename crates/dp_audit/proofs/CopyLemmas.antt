@@ -1,5 +1,6 @@
 -- What is still to be listed of a memory's changes while its copy is brought up to date, cell by cell in ascending order.
-use Rattle.std.proofs.Common.{◌≡◌, ◌≢◌, inl, inr, refl, sym, ap, ◌∙◌, ℕ, zero, suc, ◌+◌, ◌<◌, ◌≤◌, ◌==◌, ◌||◌, Bool, true, false, not, ◌&&◌, if◌then◌else◌, List, [], ◌∷◌, ◌++◌, append_assoc, append-nil, length, filter, map, get_or, slice_set, ℤ, pos, drop, arith}
+use Rattle.std.proofs.Common.{◌≡◌, ◌≢◌, inl, inr, refl, sym, ap, ◌∙◌, ℕ, zero, suc, ◌+◌, ◌<◌, ◌≤◌, ◌==◌, ◌||◌, Bool, true, false, not, ◌&&◌, if◌then◌else◌}
+use Rattle.std.proofs.Common.{List, [], ◌∷◌, ◌++◌, append_assoc, append-nil, length, filter, map, get_or, slice_set, ℤ, pos, drop, arith}
 use Rattle.std.specs.Ordering.{int_eq}
 use Rattle.std.specs.List.Sorted.{IsNonDecreasing, IsPermutation}
 use Rattle.std.proofs.lemmas.Bool.{and_right, and_from, both_ways, cases_Bool, cases_lt, eqb-true, false_from_ne_true, not_from_false, or_cases}
@@ -27,7 +28,8 @@ none_pass test h [] = refl
 none_pass test h (x ∷ xs) = ap (λ (b : Bool). if b then x ∷ filter test xs else filter test xs) (h x) ∙ none_pass test h xs
 
 -- The least number that passes comes first, and then those that pass a test that differs at it alone.
-first_pass : (test other : ℕ → Bool) (s k m : ℕ) → k ≤ s → s < k + m → ((c : ℕ) → c < s → test c ≡ false) → test s ≡ true → other s ≡ false → ((c : ℕ) → c ≢ s → test c ≡ other c) →
+first_pass : (test other : ℕ → Bool) (s k m : ℕ) → k ≤ s → s < k + m → ((c : ℕ) → c < s → test c ≡ false) → test s ≡ true → other s ≡ false →
+    ((c : ℕ) → c ≢ s → test c ≡ other c) →
     filter test (numbers_from k m) ≡ s ∷ filter other (numbers_from k m)
 first_pass test other s k zero from within below here out agree = absurd (omega (arith, from, within))
 first_pass test other s k (suc m) from within below here out agree = elim (cases_lt k s) [
@@ -48,9 +50,6 @@ first_pass test other s k (suc m) from within below here out agree = elim (cases
 ]
 
 module _ (locals : List ℕ) (now : List ℤ) where
-  abbrev changed : List ℤ → ℕ → Bool
-  changed known = changed_but locals known now
-
   -- The copy is as long as the memory; what was listed, and what has still changed, is what had changed.
   pub record Listing (old known : List ℤ) (sets : List SetOf) : Type 0 where
     pub size : length known ≡ length now
@@ -64,7 +63,8 @@ module _ (locals : List ℕ) (now : List ℤ) where
     pub within : (c : ℕ) → changed_but locals known now c ≡ true → c < length now
     within c h = elim (cases_lt c (length now)) [
       | inl less ↦ less
-      | inr past ↦ absurd (both_ways (changed_but locals known now c) (unchanged c (get_or_past known c (pos 0) (omega (arith, past, size)) ∙ sym (get_or_past now c (pos 0) past))) h)
+      | inr past ↦ absurd (both_ways (changed_but locals known now c) (unchanged c (get_or_past known c (pos 0) (omega (arith, past, size))
+          ∙ sym (get_or_past now c (pos 0) past))) h)
     ]
 
   module _ (known : List ℤ) (size : length known ≡ length now) (s : ℕ) where
@@ -78,7 +78,8 @@ module _ (locals : List ℕ) (now : List ℤ) where
     set_here h = unchanged after size_after s (get_or-set_same known s (get_or now s (pos 0)) (pos 0) (omega (arith, h, size)))
 
     set_elsewhere : (c : ℕ) → c ≢ s → changed_but locals known now c ≡ changed_but locals (slice_set known s (get_or now s (pos 0))) now c
-    set_elsewhere c n = ap (λ (z : ℤ). not (has c locals) && not (int_eq z (get_or now c (pos 0)))) (sym (get_or-set_other known s c (get_or now s (pos 0)) (pos 0) n))
+    set_elsewhere c n = ap (λ (z : ℤ). not (has c locals) && not (int_eq z (get_or now c (pos 0))))
+        (sym (get_or-set_other known s c (get_or now s (pos 0)) (pos 0) n))
 
     changes_first : changed_but locals known now s ≡ true → ((c : ℕ) → changed_but locals known now c ≡ true → s ≤ c) →
         changes_but locals known now ≡ set_from now s ∷ changes_but locals (slice_set known s (get_or now s (pos 0))) now
@@ -91,17 +92,21 @@ module _ (locals : List ℕ) (now : List ℤ) where
   abbrev pub LeavesOthers : List ℤ → List ℤ → ℕ → Type 0
   LeavesOthers known next s = (c : ℕ) → changed_but locals next now c ≡ true → (c ≢ s) × (changed_but locals known now c ≡ true)
 
-  module _ (old known : List ℤ) (sets : List SetOf) (l : Listing old known sets) (s : ℕ) (least : (c : ℕ) → changed_but locals known now c ≡ true → s ≤ c) (next : List ℤ) (more : List SetOf)
-      (next_is : next ≡ (if changed_but locals known now s then slice_set known s (get_or now s (pos 0)) else known)) (more_is : more ≡ (if changed_but locals known now s then sets ++ set_from now s ∷ [] else sets)) where
+  module _ (old known : List ℤ) (sets : List SetOf) (l : Listing old known sets) (s : ℕ) (least : (c : ℕ) → changed_but locals known now c ≡ true → s ≤ c)
+      (next : List ℤ) (more : List SetOf)
+      (next_is : next ≡ (if changed_but locals known now s then slice_set known s (get_or now s (pos 0)) else known))
+      (more_is : more ≡ (if changed_but locals known now s then sets ++ set_from now s ∷ [] else sets)) where
     -- The least cell that may have changed was looked at.
     pub listing_next : Listing old next more
     listing_next = elim (cases_Bool (changed_but locals known now s)) [
       | inl t ↦
-          let n : next ≡ slice_set known s (get_or now s (pos 0)) = next_is ∙ ap (λ (b : Bool). if b then slice_set known s (get_or now s (pos 0)) else known) t in
+          let n : next ≡ slice_set known s (get_or now s (pos 0)) = next_is
+          ∙ ap (λ (b : Bool). if b then slice_set known s (get_or now s (pos 0)) else known) t in
           let m : more ≡ sets ++ set_from now s ∷ [] = more_is ∙ ap (λ (b : Bool). if b then sets ++ set_from now s ∷ [] else sets) t in
           record {
             size = ap (λ (xs : List ℤ). length xs) n ∙ size_after known l.size s;
-            so_far = ap (λ (xs : List SetOf). xs ++ changes_but locals next now) m ∙ ap (λ (xs : List ℤ). (sets ++ set_from now s ∷ []) ++ changes_but locals xs now) n
+            so_far = ap (λ (xs : List SetOf). xs ++ changes_but locals next now) m
+                ∙ ap (λ (xs : List ℤ). (sets ++ set_from now s ∷ []) ++ changes_but locals xs now) n
                 ∙ append_assoc sets (set_from now s ∷ []) (changes_but locals (slice_set known s (get_or now s (pos 0))) now)
                 ∙ ap (λ (xs : List SetOf). sets ++ xs) (sym (changes_first known l.size s t least)) ∙ l.so_far;
           }
@@ -117,7 +122,8 @@ module _ (locals : List ℕ) (now : List ℤ) where
     pub others_left : LeavesOthers known next s
     others_left c h = elim (cases_Bool (changed_but locals known now s)) [
       | inl t ↦
-          let n : next ≡ slice_set known s (get_or now s (pos 0)) = next_is ∙ ap (λ (b : Bool). if b then slice_set known s (get_or now s (pos 0)) else known) t in
+          let n : next ≡ slice_set known s (get_or now s (pos 0)) = next_is
+          ∙ ap (λ (b : Bool). if b then slice_set known s (get_or now s (pos 0)) else known) t in
           let g : changed_but locals (slice_set known s (get_or now s (pos 0))) now c ≡ true = ap (λ (xs : List ℤ). changed_but locals xs now c) (sym n) ∙ h in
           let apart : c ≢ s = λ (e : c ≡ s). both_ways (changed_but locals (slice_set known s (get_or now s (pos 0))) now c)
           (ap (changed_but locals (slice_set known s (get_or now s (pos 0))) now) e ∙ set_here known l.size s (within known l.size s t)) g in
@@ -131,12 +137,14 @@ module _ (locals : List ℕ) (now : List ℤ) where
   -- Nothing has changed that wasn't listed.
   module _ (old known : List ℤ) (sets : List SetOf) (l : Listing old known sets) (none : (c : ℕ) → changed_but locals known now c ≡ false) where
     pub listed_all : sets ≡ changes_but locals old now
-    listed_all = sym (append-nil sets) ∙ ap (λ (xs : List ℕ). sets ++ map (set_from now) xs) (sym (none_pass (changed_but locals known now) none (numbers_from 0 (length now)))) ∙ l.so_far
+    listed_all = sym (append-nil sets) ∙ ap (λ (xs : List ℕ). sets ++ map (set_from now) xs)
+        (sym (none_pass (changed_but locals known now) none (numbers_from 0 (length now)))) ∙ l.so_far
 
     pub same_values : (c : ℕ) → has c locals ≡ false → get_or known c (pos 0) ≡ get_or now c (pos 0)
     same_values c apart = elim (cases_Bool (int_eq (get_or known c (pos 0)) (get_or now c (pos 0)))) [
       | inl t ↦ (Decides-int_eq (get_or known c (pos 0)) (get_or now c (pos 0))).0 t
-      | inr f ↦ absurd (both_ways (changed_but locals known now c) (none c) (and_from (not (has c locals)) _ (not_from_false (has c locals) apart) (not_from_false (int_eq (get_or known c (pos 0)) (get_or now c (pos 0))) f)))
+      | inr f ↦ absurd (both_ways (changed_but locals known now c) (none c) (and_from (not (has c locals)) _ (not_from_false (has c locals) apart)
+          (not_from_false (int_eq (get_or known c (pos 0)) (get_or now c (pos 0))) f)))
     ]
 
 -- ---- numbers in ascending order
@@ -156,7 +164,8 @@ least_there xs i h up c e =
 -- what is among them and isn't the one there is among those behind it
 pub behind_there : (xs : List ℕ) (i : ℕ) → i < length xs → (c : ℕ) → c ≢ get_or xs i 0 → has c (drop i xs) ≡ true → has c (drop (i + 1) xs) ≡ true
 behind_there xs i h c apart e =
-    let both : ((get_or xs i 0 == c) || has c (drop (i + 1) xs)) ≡ true = ap (has c) (sym (next_of xs i (get_or xs i 0) h (get_or_default xs i 0 (get_or xs i 0) h))) ∙ e in
+    let both : ((get_or xs i 0 == c) || has c (drop (i + 1) xs)) ≡ true = ap (has c)
+    (sym (next_of xs i (get_or xs i 0) h (get_or_default xs i 0 (get_or xs i 0) h))) ∙ e in
     elim (or_cases (get_or xs i 0 == c) (has c (drop (i + 1) xs)) both) [
       | inl t ↦ absurd (apart (sym (eqb-true (get_or xs i 0) c t)))
       | inr t ↦ t
@@ -172,11 +181,14 @@ has_none c xs none h = let clash : false ≡ true = sym (ap (has c) none) ∙ h 
 
 -- ---- what a look at one cell does, where the locals are the same
 
-pub noted_cells : (now : List ℤ) (s : ℕ) (locals same : List ℕ) → same ≡ locals → (known next : List ℤ) → next ≡ (if changed_but same known now s then slice_set known s (get_or now s (pos 0)) else known) →
+pub noted_cells : (now : List ℤ) (s : ℕ) (locals same : List ℕ) → same ≡ locals → (known next : List ℤ) →
+    next ≡ (if changed_but same known now s then slice_set known s (get_or now s (pos 0)) else known) →
     next ≡ (if changed_but locals known now s then slice_set known s (get_or now s (pos 0)) else known)
-noted_cells now s locals same e known next is = is ∙ ap (λ (ls : List ℕ). if changed_but ls known now s then slice_set known s (get_or now s (pos 0)) else known) e
+noted_cells now s locals same e known next is =
+    is ∙ ap (λ (ls : List ℕ). if changed_but ls known now s then slice_set known s (get_or now s (pos 0)) else known) e
 
-pub noted_sets : (now : List ℤ) (s : ℕ) (locals same : List ℕ) → same ≡ locals → (known : List ℤ) (sets more : List SetOf) → more ≡ (if changed_but same known now s then sets ++ set_from now s ∷ [] else sets) →
+pub noted_sets : (now : List ℤ) (s : ℕ) (locals same : List ℕ) → same ≡ locals → (known : List ℤ) (sets more : List SetOf) →
+    more ≡ (if changed_but same known now s then sets ++ set_from now s ∷ [] else sets) →
     more ≡ (if changed_but locals known now s then sets ++ set_from now s ∷ [] else sets)
 noted_sets now s locals same e known sets more is = is ∙ ap (λ (ls : List ℕ). if changed_but ls known now s then sets ++ set_from now s ∷ [] else sets) e
 

@@ -11,7 +11,8 @@ use Rattle.dp_semantics.specs.Seen.{is_local_at}
 use Rattle.dp_log.specs.Changes.{changes_between, has_changed, set_from}
 use Rattle.dp_audit.specs.Copy.{changed_but, changes_but}
 
-module _ (p : Program) (plan : Plan) (locals : List ℕ) (are : (c : ℕ) → has c locals ≡ is_local_at p plan c) (known before after : List ℤ) (same : (c : ℕ) → has c locals ≡ false → get_or known c (pos 0) ≡ get_or before c (pos 0)) where
+module _ (p : Program) (plan : Plan) (locals : List ℕ) (are : (c : ℕ) → has c locals ≡ is_local_at p plan c) (known before after : List ℤ)
+    (same : (c : ℕ) → has c locals ≡ false → get_or known c (pos 0) ≡ get_or before c (pos 0)) where
   changed_alike : (c : ℕ) → changed_but locals known after c ≡ has_changed p plan before after c
   changed_alike c = elim (cases_Bool (has c locals)) [
     | inl t ↦
@@ -23,4 +24,5 @@ module _ (p : Program) (plan : Plan) (locals : List ℕ) (are : (c : ℕ) → ha
   ]
 
   pub listed_changes : changes_but locals known after ≡ changes_between p plan before after
-  listed_changes = ap (map (set_from after)) (filter_agree (changed_but locals known after) (has_changed p plan before after) changed_alike (numbers_from 0 (length after)))
+  listed_changes = ap (map (set_from after)) (filter_agree (changed_but locals known after) (has_changed p plan before after) changed_alike
+      (numbers_from 0 (length after)))

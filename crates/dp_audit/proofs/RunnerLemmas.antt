@@ -1,5 +1,5 @@
 -- What is kept of a region between two iterations: at its start, where an epoch is to begin, and behind an iteration.
-use Rattle.std.proofs.Common.{◌≡◌, refl, sym, ap, ◌∙◌, subst, ℕ, ◌≤◌, List, [], ◌++◌, ℤ, pos, length, get_or, Option, None, arith, false}
+use Rattle.std.proofs.Common.{◌≡◌, refl, sym, ap, ◌∙◌, subst, ℕ, ◌≤◌, List, [], ◌++◌, ℤ, pos, length, get_or, Option, None, false}
 use Rattle.std.specs.List.Sorted.{IsNonDecreasing}
 use Rattle.dp_tree.specs.declared.Program.{Program}
 use Rattle.dp_tree.specs.InMain.{StandsInMain}
@@ -27,19 +27,21 @@ use Rattle.dp_audit.specs.declared.epochs.Epochs.{Epochs}
 use Rattle.dp_audit.specs.declared.known.Known.{Known}
 use Rattle.dp_audit.specs.declared.runner.Runner.{Runner}
 use Rattle.dp_audit.specs.Copy.{IsCopy}
-use Rattle.dp_audit.specs.Runs.{IsKept, Stands, UnderWay}
+use Rattle.dp_audit.specs.Runs.{RunnerIsKept, RegionStands, EpochUnderWay}
 
 -- A place in `main` has as many cells as the program.
 pub stands_size : (p : Program) (c : Config) → StandsInMain p c → length c.cells ≡ length (start_cells p.vars)
 stands_size p c s = ap (λ (d : Config). length d.cells) s.config_is ∙ standing-length p (s.inner ++ s.behind) s.cells ∙ s.cells_are
 
-pub progress_size : (plan : Plan) (first : MachineState) (c : CommittedState) (account : Account) → Progress plan first c account → length c.machine.config.cells ≡ length (start_cells first.program.vars)
+pub progress_size : (plan : Plan) (first : MachineState) (c : CommittedState) (account : Account) → Progress plan first c account →
+    length c.machine.config.cells ≡ length (start_cells first.program.vars)
 progress_size plan first c account g = stands_size first.program c.machine.config (stands_there plan first g.start c g.holds)
 
 module _ (p : Program) (plan : Plan) (input : List ℤ) (first : MachineState) where
-  module _ (r : Runner) (k : IsKept p plan input first r) where
-    pub kept_next : (ledger : Ledger) (known : Known) (verdicts : Option Coming) → ledger.waiting ≡ [] → ledger.account.why ≡ r.ledger.account.why → known.locals ≡ r.known.locals → IsCopy known ledger.committed.machine.config.cells →
-        IsKept p plan input first (record { epochs = r.epochs; ledger = ledger; known = known; verdicts = verdicts })
+  module _ (r : Runner) (k : RunnerIsKept p plan input first r) where
+    pub kept_next : (ledger : Ledger) (known : Known) (verdicts : Option Coming) → ledger.waiting ≡ [] → ledger.account.why ≡ r.ledger.account.why →
+        known.locals ≡ r.known.locals → IsCopy known ledger.committed.machine.config.cells →
+        RunnerIsKept p plan input first (record { epochs = r.epochs; ledger = ledger; known = known; verdicts = verdicts })
     kept_next ledger known verdicts none asked locals copy = record {
       own_program = k.own_program;
       own_plan = k.own_plan;
@@ -54,34 +56,37 @@ module _ (p : Program) (plan : Plan) (input : List ℤ) (first : MachineState) w
       locals = λ c. ap (has c) locals ∙ k.locals c;
     }
 
-    pub few_steps : Progress plan first r.ledger.committed r.ledger.account → r.ledger.committed.machine.fuel ≤ 1000000000
-    few_steps g = omega (arith, g.holds.fuel, k.few)
-
-    to_begin : AtEpoch plan first r.ledger.committed r.ledger.account → ToBegin r.epochs.region.now.program r.epochs.region.now.plan r.epochs.input.now first r.ledger.committed r.ledger.account
+    to_begin : AtEpoch plan first r.ledger.committed r.ledger.account → ToBegin r.epochs.region.now.program r.epochs.region.now.plan r.epochs.input.now first
+        r.ledger.committed r.ledger.account
     to_begin a = record {
       at_epoch = subst (λ (x : Plan). AtEpoch x first r.ledger.committed r.ledger.account) (sym k.own_plan) a;
       program_is = k.program_is ∙ sym k.own_program;
       input_is = k.input_is ∙ sym k.own_input;
     }
 
-    pub sound : AtEpoch plan first r.ledger.committed r.ledger.account → IsSound (key_here r.epochs.region.now.program r.epochs.region.now.plan r.epochs.input.now r.ledger.committed)
+    pub sound : AtEpoch plan first r.ledger.committed r.ledger.account →
+        IsSound (key_here r.epochs.region.now.program r.epochs.region.now.plan r.epochs.input.now r.ledger.committed)
     sound a = sound_here r.epochs.region.now.program r.epochs.region.now.plan r.epochs.input.now first r.ledger.committed r.ledger.account (to_begin a)
 
     -- the epoch that begins
-    pub begun : AtEpoch plan first r.ledger.committed r.ledger.account → (v : Coming) → v ≡ record { key = key_here r.epochs.region.now.program r.epochs.region.now.plan r.epochs.input.now r.ledger.committed; given = 0 } → UnderWay plan first r.ledger v
-    begun a v is = subst (UnderWay plan first r.ledger) (sym is) (record {
+    pub begun : AtEpoch plan first r.ledger.committed r.ledger.account → (v : Coming) →
+        v ≡ record { key = key_here r.epochs.region.now.program r.epochs.region.now.plan r.epochs.input.now r.ledger.committed; given = 0 } →
+        EpochUnderWay plan first r.ledger v
+    begun a v is = subst (EpochUnderWay plan first r.ledger) (sym is) (record {
       plan_is = k.own_plan;
-      epoch = epoch_here (key_here r.epochs.region.now.program r.epochs.region.now.plan r.epochs.input.now r.ledger.committed) 0 first r.ledger.committed r.ledger.account
+      epoch = epoch_here (key_here r.epochs.region.now.program r.epochs.region.now.plan r.epochs.input.now r.ledger.committed) 0 first
+          r.ledger.committed r.ledger.account
           (record { first = refl; base = refl; steps = refl; fuel = refl; none = refl }) (to_begin a);
     })
 
   -- The region begins: nothing is committed, and the copy is that of the memory.
-  pub stands_begun : (s : RegionStart p plan input first) (q : IsPlanned p plan) → first.fuel ≤ 1000000000 → (epochs : Epochs) (ledger : Ledger) (known : Known) →
+  pub stands_begun : (s : RegionStart p plan input first) (q : IsPlanned p plan) → first.fuel ≤ 1000000000 →
+      (epochs : Epochs) (ledger : Ledger) (known : Known) →
       epochs.region.now.program ≡ p → epochs.region.now.plan ≡ plan → epochs.input.now ≡ input →
       ((region : ℕ) → next_part first ≡ Region region → ledger.committed ≡ record { machine = first; region = region; count = 0 }) →
       ledger.account ≡ begun_account p plan first.config.cells false → ledger.waiting ≡ [] →
       IsNonDecreasing known.locals → ((c : ℕ) → has c known.locals ≡ is_local_at p plan c) → known.cells ≡ first.config.cells →
-      Stands p plan input first 0 (record { epochs = epochs; ledger = ledger; known = known; verdicts = None })
+      RegionStands p plan input first 0 (record { epochs = epochs; ledger = ledger; known = known; verdicts = None })
   stands_begun s q few epochs ledger known own_p own_plan own_input committed account waiting ascending locals cells =
       let b = region_begins p plan input first s q ledger.committed committed ledger.account false account in
       let is = committed plan.region s.next in
@@ -106,12 +111,13 @@ module _ (p : Program) (plan : Plan) (input : List ℤ) (first : MachineState) w
       }
 
   -- .. where the region's number and its locals were told of this plan and this program
-  pub stands_told : (s : RegionStart p plan input first) (q : IsPlanned p plan) → first.fuel ≤ 1000000000 → (same : Plan) → same ≡ plan → (own : Program) → own ≡ p → (epochs : Epochs) (ledger : Ledger) (known : Known) →
+  pub stands_told : (s : RegionStart p plan input first) (q : IsPlanned p plan) → first.fuel ≤ 1000000000 → (same : Plan) → same ≡ plan → (own : Program) →
+      own ≡ p → (epochs : Epochs) (ledger : Ledger) (known : Known) →
       epochs.region.now.program ≡ p → epochs.region.now.plan ≡ plan → epochs.input.now ≡ input →
       ((region : ℕ) → next_part first ≡ Region region → ledger.committed ≡ record { machine = first; region = region; count = 0 }) →
       ledger.account ≡ begun_account own same first.config.cells false → ledger.waiting ≡ [] →
       IsNonDecreasing known.locals → ((c : ℕ) → has c known.locals ≡ is_local_at own same c) → known.cells ≡ first.config.cells →
-      Stands p plan input first 0 (record { epochs = epochs; ledger = ledger; known = known; verdicts = None })
+      RegionStands p plan input first 0 (record { epochs = epochs; ledger = ledger; known = known; verdicts = None })
   stands_told s q few same is own own_is epochs ledger known own_p own_plan own_input committed account waiting ascending locals cells =
       stands_begun s q few epochs ledger known own_p own_plan own_input committed
       (account ∙ (λ j. begun_account (own_is j) (is j) first.config.cells false)) waiting ascending

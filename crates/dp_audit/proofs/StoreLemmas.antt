@@ -18,18 +18,21 @@ use Rattle.dp_meaning.specs.MachineState.{MachineState}
 use Rattle.dp_commit.specs.CommittedState.{CommittedState}
 use Rattle.dp_epoch.specs.declared.account.Account.{Account}
 use Rattle.dp_epoch.specs.InEpoch.{InEpoch}
-use Rattle.dp_audit.specs.Stored.{cell_of}
+use Rattle.dp_audit.specs.Stored.{stored_cell}
 
-stores_elsewhere : (stores : List StoreOf) (cells : List ℤ) (c : ℕ) → has c (map cell_of stores) ≡ false → get_or (with_stores stores cells) c (pos 0) ≡ get_or cells c (pos 0)
+stores_elsewhere : (stores : List StoreOf) (cells : List ℤ) (c : ℕ) → has c (map stored_cell stores) ≡ false →
+    get_or (with_stores stores cells) c (pos 0) ≡ get_or cells c (pos 0)
 stores_elsewhere [] cells c apart = refl
 stores_elsewhere (s ∷ rest) cells c apart =
-    let parts = or_parts (s.cell.0 == c) (has c (map cell_of rest)) apart in
+    let parts = or_parts (s.cell.0 == c) (has c (map stored_cell rest)) apart in
     stores_elsewhere rest (slice_set cells s.cell.0 s.value) c parts.1
     ∙ get_or-set_other cells s.cell.0 c s.value (pos 0) (λ (e : c ≡ s.cell.0). both_ways (s.cell.0 == c) parts.0 (eq-eqb s.cell.0 c (sym e)))
 
-module _ (key : EpochKey) (n : ℕ) (first : MachineState) (c : CommittedState) (account : Account) (e : InEpoch key n first c account) (v : Carried) (gives : SaysTheSame key (verdict_at key n) (Commit v))
+module _ (key : EpochKey) (n : ℕ) (first : MachineState) (c : CommittedState) (account : Account) (e : InEpoch key n first c account) (v : Carried)
+    (gives : SaysTheSame key (verdict_at key n) (Commit v))
     (new : CommittedState) (more : Account) (f : InEpoch key (n + 1) first new more) where
-  cells_by : (j : Judgement) → judgement_of key n ≡ j → SaysTheSame key (verdict_by key n j) (Commit v) → new.machine.config.cells ≡ clear_locals key.plan.region key.program.vars (with_stores v.stores c.machine.config.cells)
+  cells_by : (j : Judgement) → judgement_of key n ≡ j → SaysTheSame key (verdict_by key n j) (Commit v) →
+      new.machine.config.cells ≡ clear_locals key.plan.region key.program.vars (with_stores v.stores c.machine.config.cells)
   cells_by (Clean agreed) is told =
       let next : n + 1 ≡ suc n = omega arith in
       ap (λ (s : JudgeState). s.cells) (sym f.state ∙ ap (state_at key) next ∙ ap (after_judgement key (state_at key n)) is)
@@ -38,7 +41,8 @@ module _ (key : EpochKey) (n : ℕ) (first : MachineState) (c : CommittedState) 
       ∙ sym (told.3 c.machine.config.cells)
   cells_by Unclean is told = absurd told
 
-  pub same_elsewhere : (k : ℕ) → is_local_at key.program key.plan k ≡ false → has k (map cell_of v.stores) ≡ false → get_or new.machine.config.cells k (pos 0) ≡ get_or c.machine.config.cells k (pos 0)
+  pub same_elsewhere : (k : ℕ) → is_local_at key.program key.plan k ≡ false → has k (map stored_cell v.stores) ≡ false →
+      get_or new.machine.config.cells k (pos 0) ≡ get_or c.machine.config.cells k (pos 0)
   same_elsewhere k local apart =
       ap (λ (cells : List ℤ). get_or cells k (pos 0)) (cells_by (judgement_of key n) refl gives)
       ∙ clear-other key.plan.region k key.program.vars (with_stores v.stores c.machine.config.cells) local

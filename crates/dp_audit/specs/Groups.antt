@@ -15,15 +15,15 @@ use Rattle.dp_epoch.specs.declared.ends.RegionEnd.TheVariants as region_end
 use Rattle.dp_epoch.specs.Progress.{RegionDone}
 use Rattle.dp_audit.specs.declared.group.Group.{Group}
 use Rattle.dp_audit.specs.declared.runner.Runner.{Runner}
-use Rattle.dp_audit.specs.Runs.{Stands}
+use Rattle.dp_audit.specs.Runs.{RegionStands}
 
 -- behind an iteration that ended so the next one comes, or the region was left
-abbrev pub is_over : IterEnd → Bool
-is_over Next = true
-is_over Closed = true
-is_over (Fault fault) = false
-is_over Fuel = false
-is_over Going = false
+abbrev pub is_iteration_over : IterEnd → Bool
+is_iteration_over Next = true
+is_iteration_over Closed = true
+is_iteration_over (Fault fault) = false
+is_iteration_over Fuel = false
+is_iteration_over Going = false
 
 -- it left the region
 abbrev pub is_left : IterEnd → Bool
@@ -40,26 +40,26 @@ pub record IsGroup (p : Program) (plan : Plan) (run : Run) (n : ℕ) (group : Gr
   pub again : group.again ≡ is_recovered p plan run n
   pub sets : group.sets ≡ changes_of p plan run n
   pub prints_are : group.prints ≡ prints (iteration run plan.region n)
-  pub over : has_ended run plan.region n ≡ is_over group.end
+  pub over : has_ended run plan.region n ≡ is_iteration_over group.end
   pub left : is_closing run plan.region n ≡ is_left group.end
 
 -- The region has ended so, and n of its iterations were begun.
-pub record HasEnded (plan : Plan) (first : MachineState) (n : ℕ) (r : Runner) (end : RegionEnd) : Type 0 where
+pub record RegionHasEnded (plan : Plan) (first : MachineState) (n : ℕ) (r : Runner) (end : RegionEnd) : Type 0 where
   pub done : RegionDone plan first r.ledger.committed r.ledger.account end
   pub begun : begun_count (region_run first) plan.region ≡ n
 
 -- where the region stands behind an iteration that ended so, with which n were begun
 abbrev pub StandsBehind : Program → Plan → List ℤ → MachineState → ℕ → Runner → IterEnd → Type 0
-StandsBehind p plan input first n r Next = Stands p plan input first n r
-StandsBehind p plan input first n r Closed = HasEnded plan first n r region_end.Closed
-StandsBehind p plan input first n r (Fault fault) = HasEnded plan first n r (region_end.Fault fault)
-StandsBehind p plan input first n r Fuel = HasEnded plan first n r region_end.Fuel
+StandsBehind p plan input first n r Next = RegionStands p plan input first n r
+StandsBehind p plan input first n r Closed = RegionHasEnded plan first n r region_end.Closed
+StandsBehind p plan input first n r (Fault fault) = RegionHasEnded plan first n r (region_end.Fault fault)
+StandsBehind p plan input first n r Fuel = RegionHasEnded plan first n r region_end.Fuel
 StandsBehind p plan input first n r Going = ⊥
 
 -- what comes behind the first n iterations: the next one, or that the fuel is spent before its condition
-abbrev pub Gives : Program → Plan → List ℤ → MachineState → ℕ → Runner → Option Group → Type 0
-Gives p plan input first n r (Some group) = IsGroup p plan (region_run first) n group × StandsBehind p plan input first (n + 1) r group.end
-Gives p plan input first n r None = (is_begun (region_run first) plan.region n ≡ false) × HasEnded plan first n r region_end.Fuel
+abbrev pub GivesGroup : Program → Plan → List ℤ → MachineState → ℕ → Runner → Option Group → Type 0
+GivesGroup p plan input first n r (Some group) = IsGroup p plan (region_run first) n group × StandsBehind p plan input first (n + 1) r group.end
+GivesGroup p plan input first n r None = (is_begun (region_run first) plan.region n ≡ false) × RegionHasEnded plan first n r region_end.Fuel
 
 -- The iteration behind this was made. Where it isn't begun, the fuel is spent.
 pub record Makes (p : Program) (plan : Plan) (input : List ℤ) (first : MachineState) (c : CommittedState) (r : Runner) (group : Group) : Type 0 where
@@ -67,7 +67,7 @@ pub record Makes (p : Program) (plan : Plan) (input : List ℤ) (first : Machine
   pub again : group.again ≡ is_recovered p plan (region_run first) c.count
   pub sets : group.sets ≡ changes_of p plan (region_run first) c.count
   pub prints_are : c.machine.steps < c.machine.fuel → group.prints ≡ prints (iteration (region_run first) plan.region c.count)
-  pub over : c.machine.steps < c.machine.fuel → has_ended (region_run first) plan.region c.count ≡ is_over group.end
+  pub over : c.machine.steps < c.machine.fuel → has_ended (region_run first) plan.region c.count ≡ is_iteration_over group.end
   pub left : c.machine.steps < c.machine.fuel → is_closing (region_run first) plan.region c.count ≡ is_left group.end
   pub begun : (c.machine.steps < c.machine.fuel) ⊎ (group.end ≡ Fuel)
   pub behind : StandsBehind p plan input first (c.count + cond (nat_lt c.machine.steps c.machine.fuel) 1 0) r group.end

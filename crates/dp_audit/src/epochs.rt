@@ -26,7 +26,9 @@ impl<'s, 'q> Epochs<'s, 'q> {
         requires sound { IsSound (key_here self.old.region.now.program self.old.region.now.plan self.old.input.now ledger.now.committed) }
         requires fuel { ledger.now.committed.machine.fuel ≤ 1000000000 }
         ensures kept { self.new ≡ self.old }
-        ensures verdicts { IfOk result (λ verdicts. verdicts ≡ record { key = key_here self.old.region.now.program self.old.region.now.plan self.old.input.now ledger.now.committed; given = 0 }) }
+        ensures verdicts { IfOk result
+            (λ verdicts. verdicts
+            ≡ record { key = key_here self.old.region.now.program self.old.region.now.plan self.old.input.now ledger.now.committed; given = 0 }) }
     {
         let Pipeline { units, verdicts } = pipeline_here(
             self.alloc,

@@ -81,8 +81,10 @@ impl Known {
     /// Appends the cell with its new value if it has changed, and changes the copy, too.
     fn note(&mut self, now: &Cells, cell: u32, sets: &mut Row<SetOf>) -> Result<(), NoMemory>
         requires ascending { IsNonDecreasing self.old.locals }
-        ensures sets { OnOk result (sets.new ≡ (if changed_but self.old.locals self.old.cells now.now cell then sets.old ++ set_from now.now cell ∷ [] else sets.old)) }
-        ensures cells { OnOk result (self.new.cells ≡ (if changed_but self.old.locals self.old.cells now.now cell then slice_set self.old.cells cell (get_or now.now cell (pos 0)) else self.old.cells)) }
+        ensures sets { OnOk result (sets.new ≡ (if changed_but self.old.locals self.old.cells now.now cell then sets.old ++ set_from now.now cell
+            ∷ [] else sets.old)) }
+        ensures cells { OnOk result (self.new.cells ≡ (if changed_but self.old.locals self.old.cells now.now cell then slice_set self.old.cells cell
+            (get_or now.now cell (pos 0)) else self.old.cells)) }
         ensures locals { OnOk result (self.new.locals ≡ self.old.locals) }
     {
         if self.has_changed(now, cell) {

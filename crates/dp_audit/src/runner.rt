@@ -4,11 +4,11 @@ ghost use Rattle.dp_tree.specs.declared.Program.{Program as Tree};
 ghost use Rattle.dp_plan.specs.declared.Plan.{Plan as PlanValue};
 ghost use Rattle.dp_meaning.specs.declared.ends.IterEnd.TheVariants.{Next};
 ghost use Rattle.dp_meaning.specs.MachineState.{MachineState};
-ghost use Rattle.dp_epoch.specs.Applied.{left_of};
+ghost use Rattle.dp_epoch.specs.Applied.{steps_left};
 ghost use Rattle.dp_epoch.specs.RegionRun.{RegionStart};
 ghost use Rattle.dp_audit.specs.declared.group.Group.{Group as Told};
-ghost use Rattle.dp_audit.specs.Runs.{Stands};
-ghost use Rattle.dp_audit.specs.Groups.{Gives};
+ghost use Rattle.dp_audit.specs.Runs.{RegionStands};
+ghost use Rattle.dp_audit.specs.Groups.{GivesGroup};
 
 mod making;
 
@@ -60,7 +60,7 @@ where
     ) -> Result<Runner<'s, 'q, 'p>, NoMemory>
         requires start { RegionStart region.now.program region.now.plan input.now machine }
         requires fuel { machine.fuel ≤ 1000000000 }
-        ensures { IfOk result (λ runner. Stands region.now.program region.now.plan input.now machine.entry 0 runner) }
+        ensures { IfOk result (λ runner. RegionStands region.now.program region.now.plan input.now machine.entry 0 runner) }
     {
         let setter = StopSetter::new(alloc)?;
         let (program, plan) = (region.program(), region.plan());
@@ -84,10 +84,11 @@ where
     /// Makes the region's next iteration, after one that ended with [`IterEnd::Next`] or after none. `None` says that the fuel
     /// is spent before its condition. Behind any other end, behind `None` and behind `NoMemory` it isn't called again.
     pub fn next<R: Wait + Clock>(&mut self, rt: &R) -> Result<Option<Group>, NoMemory>
-        requires stands { (p : Tree) × (plan : PlanValue) × (input : List ℤ) × (first : MachineState) × (n : ℕ) × Stands p plan input first n self.old }
+        requires stands { (p : Tree) × (plan : PlanValue) × (input : List ℤ) × (first : MachineState) × (n : ℕ) × RegionStands p plan input first n self.old }
         ensures given { IfOk result (λ given. (p : Tree) (plan : PlanValue) (input : List ℤ) (first : MachineState) (n : ℕ) →
-            Stands p plan input first n self.old → Gives p plan input first n self.new given) }
-        ensures left { IfOk result (λ given. (group : Told) → given ≡ Some group → group.end ≡ Next → left_of self.new.ledger.committed < left_of self.old.ledger.committed) }
+            RegionStands p plan input first n self.old → GivesGroup p plan input first n self.new given) }
+        ensures left { IfOk result (λ given. (group : Told) → given ≡ Some group → group.end ≡ Next →
+            steps_left self.new.ledger.committed < steps_left self.old.ledger.committed) }
     {
         let begun = self.ledger.committed.steps() < self.ledger.committed.fuel();
         let group = self.make(rt)?;

@@ -1,5 +1,6 @@
 -- From the parts to the whole log.
-use Rattle.std.proofs.Common.{◌≡◌, refl, sym, ap, ◌∙◌, subst, arith, ℕ, zero, suc, ◌+◌, ◌-◌, ◌<◌, List, [], ◌∷◌, ◌++◌, append_assoc, ℤ, map, take, false, append-nil, None}
+use Rattle.std.proofs.Common.{◌≡◌, refl, sym, ap, ◌∙◌, subst, arith, ℕ, zero, suc, ◌+◌, ◌-◌, ◌<◌, List, [], ◌∷◌, ◌++◌, append_assoc, ℤ, map, take, false}
+use Rattle.std.proofs.Common.{append-nil, None}
 use Rattle.dp_tree.specs.declared.Program.{Program}
 use Rattle.dp_tree.specs.Inlined.{IsInlined}
 use Rattle.dp_tree.specs.Numbering.{numbers_from}
@@ -15,7 +16,7 @@ use Rattle.dp_log.specs.Compared.{DifferFirst}
 use Rattle.dp_log.specs.LogText.{first_line}
 use Rattle.dp_auditor.specs.Answered.{Answers}
 use Rattle.dp_auditor.specs.declared.AuditEnd.{AuditEnd}
-use Rattle.dp_auditor.specs.Comparing.{Compared, Fails, Passes}
+use Rattle.dp_auditor.specs.Comparing.{Compared, Fails, PassesPiece}
 use Rattle.dp_auditor.specs.Regions.{Ascending, IsAbove, Standing, regions_left}
 use Rattle.dp_auditor.proofs.OrderLemmas.{regions_numbered}
 use Rattle.dp_auditor.proofs.PieceLemmas.{compared_is, fails_behind, passes_join}
@@ -37,7 +38,8 @@ ascending k (suc n) (plan ∷ plans) e =
     let rest : map region_of plans ≡ numbers_from (k + 1) n = cc e in
     (above_numbers plan.region (k + 1) n plans (omega (arith, first)) rest, ascending (k + 1) n plans rest)
 
-module _ (p : Program) (plans : List Plan) (input : List ℤ) (fuel : ℕ) (m : MachineState) (is : m ≡ record { program = p; input = input; config = begin p; steps = 0; fuel = fuel; current = None; spoiled = false }) where
+module _ (p : Program) (plans : List Plan) (input : List ℤ) (fuel : ℕ) (m : MachineState)
+    (is : m ≡ record { program = p; input = input; config = begin p; steps = 0; fuel = fuel; current = None; spoiled = false }) where
   pub standing_first : IsInlined p → ArePlans p plans → Standing p plans m
   standing_first h are = subst (Standing p plans) (sym is) (record {
     inlined = h;
@@ -60,19 +62,24 @@ module _ (log regions end : List ℕ) (start : Compared) (is : start ≡ record 
   pub fails_first : (line : ℕ) → ((later : List ℕ) → Fails start (first_line ++ later) line) → DifferFirst log (first_line ++ regions ++ end) line
   fails_first line f = subst (λ (xs : List ℕ). DifferFirst log xs line) whole_is (from_start (first_line ++ (regions ++ end)) line (f (regions ++ end)))
 
-  module _ (mid : Compared) (passes : Passes start mid first_line) where
+  module _ (mid : Compared) (passes : PassesPiece start mid first_line) where
     pub fails_regions : (line : ℕ) → ((later : List ℕ) → Fails mid (regions ++ later) line) → DifferFirst log (first_line ++ regions ++ end) line
-    fails_regions line f = subst (λ (xs : List ℕ). DifferFirst log xs line) whole_is (from_start (first_line ++ (regions ++ end)) line (fails_behind start mid first_line (regions ++ end) line passes (f end)))
+    fails_regions line f = subst (λ (xs : List ℕ). DifferFirst log xs line) whole_is (from_start (first_line ++ (regions ++ end)) line
+        (fails_behind start mid first_line (regions ++ end) line passes (f end)))
 
-    module _ (new : Compared) (more : Passes mid new regions) where
+    module _ (new : Compared) (more : PassesPiece mid new regions) where
       pub fails_end : (line : ℕ) → ((later : List ℕ) → Fails new (end ++ later) line) → DifferFirst log (first_line ++ regions ++ end) line
       fails_end line f =
-          let all : Fails start ((first_line ++ regions) ++ (end ++ [])) line = fails_behind start new (first_line ++ regions) (end ++ []) line (passes_join start mid new first_line regions passes more) (f []) in
-          subst (λ (xs : List ℕ). DifferFirst log (first_line ++ regions ++ xs) line) (append-nil end) (from_start ((first_line ++ regions) ++ (end ++ [])) line all)
+          let all : Fails start ((first_line ++ regions) ++ (end ++ [])) line = fails_behind start new (first_line ++ regions) (end ++ []) line
+          (passes_join start mid new first_line regions passes more) (f []) in
+          subst (λ (xs : List ℕ). DifferFirst log (first_line ++ regions ++ xs) line) (append-nil end)
+          (from_start ((first_line ++ regions) ++ (end ++ [])) line all)
 
-      pub answers : (last : Compared) → Passes new last end → (answer : AuditEnd) → Answers last.log (take last.place last.log) answer → Answers log (first_line ++ regions ++ end) answer
+      pub answers : (last : Compared) → PassesPiece new last end → (answer : AuditEnd) → Answers last.log (take last.place last.log) answer →
+          Answers log (first_line ++ regions ++ end) answer
       answers last passes_end answer told =
           let all = passes_join start new last (first_line ++ regions) end (passes_join start mid new first_line regions passes more) passes_end in
-          let text : take last.place last.log ≡ first_line ++ regions ++ end = compared_is start last (first_line ++ regions ++ end) all ∙ ap (λ (c : Compared). take c.place c.log ++ (first_line ++ regions ++ end)) is in
+          let text : take last.place last.log ≡ first_line ++ regions ++ end = compared_is start last (first_line ++ regions ++ end) all
+          ∙ ap (λ (c : Compared). take c.place c.log ++ (first_line ++ regions ++ end)) is in
           let same : last.log ≡ log = all.log ∙ ap (λ (c : Compared). c.log) is in
           subst (λ (xs : List ℕ). Answers xs (first_line ++ regions ++ end) answer) same (subst (λ (xs : List ℕ). Answers last.log xs answer) text told)

@@ -1,5 +1,6 @@
 -- A run that goes on, and the iterations of a region from there on.
-use Rattle.std.proofs.Common.{◌≡◌, refl, sym, ap, ◌∙◌, subst, arith, ℕ, suc, ◌+◌, ◌-◌, Bool, false, if◌then◌else◌, List, [], ◌∷◌, ◌++◌, length-append, length, cond, nat_lt, count_by, All, Some, slice_get}
+use Rattle.std.proofs.Common.{◌≡◌, refl, sym, ap, ◌∙◌, subst, arith, ℕ, suc, ◌+◌, ◌-◌, Bool, false, if◌then◌else◌, List, [], ◌∷◌, ◌++◌, length-append, length}
+use Rattle.std.proofs.Common.{cond, nat_lt, count_by, All, Some, slice_get}
 use Rattle.std.proofs.lemmas.List.Elements.{All-head, All-tail}
 use Rattle.std.proofs.lemmas.List.Sums.{sum_by-append}
 use Rattle.dp_room.proofs.ListLemmas.{get_behind}
@@ -25,7 +26,8 @@ no_place {X = X} test k (x ∷ xs) h =
     ap (λ (b : Bool). if b then k ∷ places test (suc k) xs else places test (suc k) xs) (All-head (λ (y : X). test y ≡ false) x xs h)
     ∙ no_place test (suc k) xs (All-tail (λ (y : X). test y ≡ false) x xs h)
 
-module _ (old new : MachineState) (same : SameRun old new) (events : List Event) (configs : List Config) (piece : Continues (rest_of_run old) events configs (rest_of_run new)) where
+module _ (old new : MachineState) (same : SameRun old new) (events : List Event) (configs : List Config)
+    (piece : Continues (rest_of_run old) events configs (rest_of_run new)) where
   abbrev first : Run
   first = rest_of_run old
 
@@ -57,7 +59,8 @@ module _ (old new : MachineState) (same : SameRun old new) (events : List Event)
   -- the memory behind all steps
   pub last_cells : cells_after first (length first.trace) ≡ cells_after rest (length rest.trace)
   last_cells =
-      let size : length first.trace ≡ length configs + length rest.trace = omega (arith, ap length piece.trace, length-append events rest.trace, piece.paired) in
+      let size : length first.trace ≡ length configs + length rest.trace = omega
+      (arith, ap length piece.trace, length-append events rest.trace, piece.paired) in
       ap (cells_after first) size ∙ ap (λ (cs : List Config). cells_in (slice_get cs (length configs + length rest.trace))) piece.configs
       ∙ ap cells_in (get_behind configs rest.configs (length rest.trace))
 
@@ -67,7 +70,8 @@ module _ (old new : MachineState) (same : SameRun old new) (events : List Event)
         let k = length events in
         let ahead = places (stands_at_head q) 0 configs in
         let behind = places (stands_at_head q) (0 + length configs) rest.configs in
-        let sum : count_by (λ m. nat_lt m k) (ahead ++ behind) ≡ count_by (λ m. nat_lt m k) ahead + count_by (λ m. nat_lt m k) behind = sum_by-append (λ (m : ℕ). cond (nat_lt m k) 1 0) ahead behind in
+        let sum : count_by (λ m. nat_lt m k) (ahead ++ behind) ≡ count_by (λ m. nat_lt m k) ahead + count_by (λ m. nat_lt m k) behind = sum_by-append
+        (λ (m : ℕ). cond (nat_lt m k) 1 0) ahead behind in
         let low : count_by (λ m. nat_lt m k) ahead ≡ length ahead = count_below (stands_at_head q) k 0 configs (omega (arith, piece.paired)) in
         let high : count_by (λ m. nat_lt m k) behind ≡ 0 = count_above (stands_at_head q) k (0 + length configs) rest.configs (omega (arith, piece.paired)) in
         let all : count_by (λ m. nat_lt m k) (ahead ++ behind) ≡ length ahead = omega (arith, sum, low, high) in

@@ -1,5 +1,6 @@
 -- The regions that are left to do, in order.
-use Rattle.std.proofs.Common.{◌≡◌, ◌≢◌, refl, sym, ap, ◌∙◌, eq-eqb, eqb-true, ℕ, ◌+◌, ◌==◌, Bool, true, false, if◌then◌else◌, List, [], ◌∷◌, drop, length, Option, Some, None}
+use Rattle.std.proofs.Common.{◌≡◌, ◌≢◌, refl, sym, ap, ◌∙◌, eq-eqb, eqb-true, ℕ, ◌+◌, ◌==◌, Bool, true, false, if◌then◌else◌, List, [], ◌∷◌, drop, length}
+use Rattle.std.proofs.Common.{Option, Some, None}
 use Rattle.std.specs.List.{cons_option}
 use Rattle.std.proofs.lemmas.Bool.{and_parts}
 use Rattle.dp_tree.specs.declared.Stmt.{Stmt, out-Stmt}
@@ -9,17 +10,18 @@ use Rattle.dp_tree.specs.declared.RegionInfo.{RegionInfo}
 use Rattle.dp_tree.specs.declared.Program.{Program}
 use Rattle.dp_tree.specs.Inlined.{IsInlined}
 use Rattle.dp_tree.specs.Iteration.{is_region}
-use Rattle.dp_tree.specs.Numbering.{has_numbers, is_inner_in, is_marked, listed_first, next_region, numbers_from, regions_in_order, regions_listed, site_numbers, top_fits}
+use Rattle.dp_tree.specs.Numbering.{has_numbers, is_inner_in, is_marked, listed_first, next_region, numbers_from, regions_in_order, regions_listed}
+use Rattle.dp_tree.specs.Numbering.{site_numbers, top_fits}
 use Rattle.dp_tree.specs.Step.{region_number}
 use Rattle.dp_plan.proofs.TopStatements.{Top, marked, top, unmarked}
 use Rattle.dp_meaning.specs.declared.ends.Part.{Part}
 use Rattle.dp_meaning.specs.declared.ends.Part.TheVariants as part
 use Rattle.dp_meaning.specs.MachineState.{from_region, is_any_region, part_from, part_of}
 use Rattle.dp_meaning.proofs.WatchedLemmas.{part_finished}
-use Rattle.dp_auditor.specs.Regions.{number_of, regions_left}
+use Rattle.dp_auditor.specs.Regions.{number_of_region, regions_left}
 
 -- the numbers behind a statement that has this one
-left_behind : (s : Stmt) (rest : List Stmt) (o : Option ℕ) → number_of s ≡ o → regions_left (s ∷ rest) ≡ cons_option o (regions_left rest)
+left_behind : (s : Stmt) (rest : List Stmt) (o : Option ℕ) → number_of_region s ≡ o → regions_left (s ∷ rest) ≡ cons_option o (regions_left rest)
 left_behind s rest o e = ap (λ (x : Option ℕ). cons_option x (regions_left rest)) e
 
 no_number : (h : Stmt-F Stmt) → is_any_region h ≡ false → region_number h ≡ None
@@ -31,7 +33,8 @@ pub left_from_region : (xs : List Stmt) → regions_left (from_region xs) ≡ re
 left_from_region [] = refl
 left_from_region (s ∷ rest) = by (is_any_region (out-Stmt s)) refl (left_from_region rest)
   where
-    by : (b : Bool) → is_any_region (out-Stmt s) ≡ b → regions_left (from_region rest) ≡ regions_left rest → regions_left (if b then s ∷ rest else from_region rest) ≡ regions_left (s ∷ rest)
+    by : (b : Bool) → is_any_region (out-Stmt s) ≡ b → regions_left (from_region rest) ≡ regions_left rest →
+        regions_left (if b then s ∷ rest else from_region rest) ≡ regions_left (s ∷ rest)
     by true e later = refl
     by false e later = later ∙ sym (left_behind s rest None (no_number (out-Stmt s) e))
 
@@ -70,22 +73,28 @@ unnumbered _ none = refl
 
 -- Those of these statements have the numbers from k on, as many as there are entries.
 abbrev Numbered : List Stmt → Type 0
-Numbered xs = (k : ℕ) (entries : List RegionInfo) → regions_in_order k xs ≡ true → regions_listed xs entries ≡ true → regions_left xs ≡ numbers_from k (length entries)
+Numbered xs = (k : ℕ) (entries : List RegionInfo) → regions_in_order k xs ≡ true → regions_listed xs entries ≡ true →
+    regions_left xs ≡ numbers_from k (length entries)
 
 module _ (s : Stmt) (rest : List Stmt) (later : Numbered rest) where
-  numbered_region : (k : ℕ) (entries : List RegionInfo) → number_of s ≡ Some k → next_region k s ≡ k + 1 → regions_in_order (next_region k s) rest ≡ true → listed_first true s (regions_listed rest) entries ≡ true → regions_left (s ∷ rest) ≡ numbers_from k (length entries)
+  numbered_region : (k : ℕ) (entries : List RegionInfo) → number_of_region s ≡ Some k → next_region k s ≡ k + 1 →
+      regions_in_order (next_region k s) rest ≡ true → listed_first true s (regions_listed rest) entries ≡ true →
+      regions_left (s ∷ rest) ≡ numbers_from k (length entries)
   numbered_region k [] is next order listed = absurd (cc listed)
   numbered_region k (entry ∷ entries) is next order listed =
       let both = and_parts (has_numbers entry (site_numbers s)) (regions_listed rest entries) listed in
       left_behind s rest (Some k) is ∙ ap (λ (ns : List ℕ). k ∷ ns) (later (k + 1) entries (ap (λ (n : ℕ). regions_in_order n rest) (sym next) ∙ order) both.1)
 
-  numbered_by : Top s → (k : ℕ) (entries : List RegionInfo) → top_fits k s ≡ true → regions_in_order (next_region k s) rest ≡ true → listed_first (is_marked s) s (regions_listed rest) entries ≡ true → regions_left (s ∷ rest) ≡ numbers_from k (length entries)
+  numbered_by : Top s → (k : ℕ) (entries : List RegionInfo) → top_fits k s ≡ true → regions_in_order (next_region k s) rest ≡ true →
+      listed_first (is_marked s) s (regions_listed rest) entries ≡ true → regions_left (s ∷ rest) ≡ numbers_from k (length entries)
   numbered_by (unmarked none off next fit) k entries fits order listed =
       left_behind s rest None (unnumbered (out-Stmt s) none)
-      ∙ later k entries (ap (λ (n : ℕ). regions_in_order n rest) (sym (next k)) ∙ order) (ap (λ (b : Bool). listed_first b s (regions_listed rest) entries) (sym off) ∙ listed)
+      ∙ later k entries (ap (λ (n : ℕ). regions_in_order n rest) (sym (next k)) ∙ order)
+      (ap (λ (b : Bool). listed_first b s (regions_listed rest) entries) (sym off) ∙ listed)
   numbered_by (marked q site cond body shows is on next fit) k entries fits order listed =
       let both = and_parts (q == k) (is_inner_in (hidden-the_row-Stmt-0 body)) (sym (fit k) ∙ fits) in
-      numbered_region k entries (ap region_number shows ∙ ap Some (eqb-true q k both.0)) (next k) order (ap (λ (b : Bool). listed_first b s (regions_listed rest) entries) (sym on) ∙ listed)
+      numbered_region k entries (ap region_number shows ∙ ap Some (eqb-true q k both.0)) (next k) order
+      (ap (λ (b : Bool). listed_first b s (regions_listed rest) entries) (sym on) ∙ listed)
 
 all_numbered : (xs : List Stmt) → Numbered xs
 all_numbered [] k [] order listed = refl

@@ -10,7 +10,7 @@ use Rattle.dp_meaning.proofs.ContinuesLemmas.{fuel_of_run}
 use Rattle.dp_log.specs.LogText.{iterations_bytes}
 use Rattle.dp_view.specs.Following.{KeptBefore}
 use Rattle.dp_view.specs.Viewed.{Viewed}
-use Rattle.dp_auditor.specs.Comparing.{Compared, Passes}
+use Rattle.dp_auditor.specs.Comparing.{Compared, PassesPiece}
 use Rattle.dp_auditor.specs.Regions.{AtRegion, SameRun}
 use Rattle.dp_auditor.specs.Walking.{IsInside}
 
@@ -29,7 +29,7 @@ pub record Reached (p : Program) (plan : Plan) (first ahead behind : MachineStat
   pub going : (j : ℕ) → j < i → is_closing (rest_of_run first) plan.region j ≡ false
   pub epoch : ℕ
   pub kept : KeptBefore p plan (rest_of_run first) epoch i v
-  pub lines : Passes old now (iterations_bytes p plan (rest_of_run first) 0 i)
+  pub lines : PassesPiece old now (iterations_bytes p plan (rest_of_run first) 0 i)
 
 places_few : {X : Type 0} (test : X → Bool) (k : ℕ) (xs : List X) → length (places test k xs) ≤ length xs
 places_few test k [] = omega arith
@@ -40,7 +40,8 @@ places_few test k (x ∷ xs) = by (test x) (places_few test (suc k) xs)
     by false h = omega (arith, h)
 
 -- There are no more iterations than steps.
-pub few_iterations : (p : Program) (plan : Plan) (first ahead behind : MachineState) (v : Viewed) (old now : Compared) (i : ℕ) → AtRegion p plan first → Reached p plan first ahead behind v old now i → i ≤ 1000000000
+pub few_iterations : (p : Program) (plan : Plan) (first ahead behind : MachineState) (v : Viewed) (old now : Compared) (i : ℕ) → AtRegion p plan first →
+    Reached p plan first ahead behind v old now i → i ≤ 1000000000
 few_iterations p plan first ahead behind v old now i at h =
     let many = places_few (stands_at_head plan.region) 0 h.configs in
     let fuel = fuel_of_run first.program first.input (fuel_left first) first.config in

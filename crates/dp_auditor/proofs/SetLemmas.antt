@@ -1,5 +1,6 @@
 -- The changes of an iteration, where body locals read 0 before and behind it.
-use Rattle.std.proofs.Common.{◌≡◌, refl, sym, ap, ap₂, ◌∙◌, inl, inr, ℕ, suc, ◌+◌, Bool, true, false, not, ◌&&◌, if◌then◌else◌, List, [], ◌∷◌, ◌++◌, ℤ, pos, filter, map, length, get_or, arith}
+use Rattle.std.proofs.Common.{◌≡◌, refl, sym, ap, ap₂, ◌∙◌, inl, inr, ℕ, suc, ◌+◌, Bool, true, false, not, ◌&&◌, if◌then◌else◌, List, [], ◌∷◌, ◌++◌, ℤ, pos}
+use Rattle.std.proofs.Common.{filter, map, length, get_or, arith}
 use Rattle.std.specs.Ordering.{int_eq}
 use Rattle.std.specs.List.{flat_map}
 use Rattle.std.proofs.lemmas.Bool.{cases_Bool}
@@ -20,15 +21,18 @@ use Rattle.dp_view.specs.Changed.{Cleared, differs}
 use Rattle.dp_auditor.specs.Gathered.{sets_between}
 
 -- where two memories hold the same at each cell that passes, and the same ones pass, the sets are the same
-sets_same : (before after held : List ℤ) (test : ℕ → Bool) (ns : List ℕ) → ((c : ℕ) → differs before after c ≡ test c) → ((c : ℕ) → test c ≡ true → get_or after c (pos 0) ≡ get_or held c (pos 0)) →
+sets_same : (before after held : List ℤ) (test : ℕ → Bool) (ns : List ℕ) → ((c : ℕ) → differs before after c ≡ test c) →
+    ((c : ℕ) → test c ≡ true → get_or after c (pos 0) ≡ get_or held c (pos 0)) →
     map (set_from after) (filter (differs before after) ns) ≡ map (set_from held) (filter test ns)
 sets_same before after held test [] h k = refl
 sets_same before after held test (c ∷ ns) h k =
     ap (λ (b : Bool). map (set_from after) (if b then c ∷ filter (differs before after) ns else filter (differs before after) ns)) (h c)
     ∙ by (test c) (k c) (sets_same before after held test ns h k)
   where
-    by : (b : Bool) → (b ≡ true → get_or after c (pos 0) ≡ get_or held c (pos 0)) → map (set_from after) (filter (differs before after) ns) ≡ map (set_from held) (filter test ns) →
-        map (set_from after) (if b then c ∷ filter (differs before after) ns else filter (differs before after) ns) ≡ map (set_from held) (if b then c ∷ filter test ns else filter test ns)
+    by : (b : Bool) → (b ≡ true → get_or after c (pos 0) ≡ get_or held c (pos 0)) → map (set_from after) (filter (differs before after) ns) ≡ map
+        (set_from held) (filter test ns) →
+        map (set_from after) (if b then c ∷ filter (differs before after) ns else filter (differs before after) ns) ≡ map (set_from held)
+        (if b then c ∷ filter test ns else filter test ns)
     by true same later = ap₂ (λ (z : ℤ) (xs : List SetOf). record { cell = record { 0 = c }; value = z } ∷ xs) (same refl) later
     by false same later = later
 
@@ -38,13 +42,16 @@ module _ (p : Program) (plan : Plan) (before held : List ℤ) (clean : Cleared p
 
   passes_same : (c : ℕ) → differs before (clear_locals plan.region p.vars held) c ≡ has_changed p plan before held c
   passes_same c = elim (cases_Bool (is_local_at p plan c)) [
-    | inl local ↦ ap₂ (λ (y z : ℤ). not (int_eq y z)) (clean c local) (clear-at plan.region c p.vars held (inl local)) ∙ sym (ap (λ (b : Bool). not b && not (int_eq (get_or before c (pos 0)) (get_or held c (pos 0)))) local)
-    | inr other ↦ ap (λ (z : ℤ). not (int_eq (get_or before c (pos 0)) z)) (clear-other plan.region c p.vars held other) ∙ sym (ap (λ (b : Bool). not b && not (int_eq (get_or before c (pos 0)) (get_or held c (pos 0)))) other)
+    | inl local ↦ ap₂ (λ (y z : ℤ). not (int_eq y z)) (clean c local) (clear-at plan.region c p.vars held (inl local))
+        ∙ sym (ap (λ (b : Bool). not b && not (int_eq (get_or before c (pos 0)) (get_or held c (pos 0)))) local)
+    | inr other ↦ ap (λ (z : ℤ). not (int_eq (get_or before c (pos 0)) z)) (clear-other plan.region c p.vars held other)
+        ∙ sym (ap (λ (b : Bool). not b && not (int_eq (get_or before c (pos 0)) (get_or held c (pos 0)))) other)
   ]
 
   held_same : (c : ℕ) → has_changed p plan before held c ≡ true → get_or (clear_locals plan.region p.vars held) c (pos 0) ≡ get_or held c (pos 0)
   held_same c e = elim (cases_Bool (is_local_at p plan c)) [
-    | inl local ↦ (let clash : false ≡ true = sym (ap (λ (b : Bool). not b && not (int_eq (get_or before c (pos 0)) (get_or held c (pos 0)))) local) ∙ e in absurd (cc clash))
+    | inl local ↦ (let clash : false ≡ true = sym (ap (λ (b : Bool). not b && not (int_eq (get_or before c (pos 0)) (get_or held c (pos 0))))
+        local) ∙ e in absurd (cc clash))
     | inr other ↦ clear-other plan.region c p.vars held other
   ]
 
@@ -64,5 +71,6 @@ module _ (p : Program) (plan : Plan) (run : Run) where
       ∙ flat_map-append (iteration_bytes p plan run) (numbers_from 0 i) (numbers_from i n)
 
   -- the lines up to and with those of iteration i, and what comes behind them
-  pub lines_first : (i n : ℕ) → iterations_bytes p plan run 0 (i + suc n) ≡ iterations_bytes p plan run 0 i ++ (iteration_bytes p plan run i ++ iterations_bytes p plan run (i + 1) n)
+  pub lines_first : (i n : ℕ) → iterations_bytes p plan run 0 (i + suc n) ≡ iterations_bytes p plan run 0 i
+      ++ (iteration_bytes p plan run i ++ iterations_bytes p plan run (i + 1) n)
   lines_first i n = lines_join i (suc n)

@@ -23,7 +23,7 @@ abbrev pub line_behind : List ℕ → ℕ
 line_behind text = 1 + breaks text
 
 -- The piece stands there, and the comparison stands behind it.
-pub record Passes (old new : Compared) (piece : List ℕ) : Type 0 where
+pub record PassesPiece (old new : Compared) (piece : List ℕ) : Type 0 where
   pub log : new.log ≡ old.log
   pub piece_is : drop old.place old.log ≡ piece ++ drop new.place old.log
   pub place_is : new.place ≡ old.place + length piece
@@ -34,5 +34,5 @@ Fails old expected line = DifferFirst old.log (take old.place old.log ++ expecte
 
 -- the piece passes, or this is the first line that differs, whatever comes behind the piece
 abbrev pub Compares : Compared → Compared → List ℕ → Option ℕ → Type 0
-Compares old new piece None = Passes old new piece
+Compares old new piece None = PassesPiece old new piece
 Compares old new piece (Some line) = (later : List ℕ) → Fails old (piece ++ later) line

@@ -4,7 +4,7 @@ use Rattle.dp_base.specs.declared.Cause.{Cause}
 use Rattle.dp_base.specs.declared.End.TheVariants as how
 use Rattle.dp_meaning.specs.declared.ends.IterEnd.{IterEnd}
 use Rattle.dp_meaning.specs.declared.ends.IterEnd.TheVariants.{Next, Closed, Fault, Fuel, Going}
-use Rattle.dp_view.specs.Viewed.{Viewed, onward, anew}
+use Rattle.dp_view.specs.Viewed.{Viewed, next_in_epoch, anew}
 use Rattle.dp_auditor.specs.declared.iterations.After.{After}
 use Rattle.dp_auditor.specs.declared.iterations.After.TheVariants.{Left, Ends, Differs}
 
@@ -28,4 +28,4 @@ if_differs (Some line) = Some (Differs line)
 
 -- what is kept where the next iteration begins
 abbrev pub begun_next : Bool → Viewed → Viewed
-begun_next again v = if again then anew v else onward v
+begun_next again v = if again then anew v else next_in_epoch v

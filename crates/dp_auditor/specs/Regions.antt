@@ -11,15 +11,15 @@ use Rattle.dp_plan.specs.Each.{Each}
 use Rattle.dp_plan.specs.GivenPlans.{IsPlan, region_of}
 use Rattle.dp_meaning.specs.declared.ends.Part.TheVariants.{Plain, Region}
 use Rattle.dp_meaning.specs.MachineState.{MachineState, next_part, part_of, rest_of_run}
-use Rattle.dp_log.specs.LogText.{regions_bytes}
+use Rattle.dp_log.specs.LogText.{logged_regions}
 
 -- the region's number
-abbrev pub number_of : Stmt → Option ℕ
-number_of s = region_number (out-Stmt s)
+abbrev pub number_of_region : Stmt → Option ℕ
+number_of_region s = region_number (out-Stmt s)
 
 -- the numbers of the regions among these statements
 abbrev pub regions_left : List Stmt → List ℕ
-regions_left statements = filter_map number_of statements
+regions_left statements = filter_map number_of_region statements
 
 -- two places in runs of one program, on one input, within one fuel
 pub record SameRun (old new : MachineState) : Type 0 where
@@ -37,8 +37,9 @@ pub record Standing (p : Program) (plans : List Plan) (m : MachineState) : Type 
 
 -- where a plain part leads: to the next part, with the same lines to come, or to the run's end, with none
 abbrev pub PlainLeads : Program → List Plan → MachineState → MachineState → Option End → Type 0
-PlainLeads p plans old new None = Standing p plans new × SameRun old new × (next_part new ≢ Plain) × (regions_bytes p plans (rest_of_run old) ≡ regions_bytes p plans (rest_of_run new)) × ((rest_of_run old).end ≡ (rest_of_run new).end)
-PlainLeads p plans old new (Some end) = (regions_bytes p plans (rest_of_run old) ≡ []) × ((rest_of_run old).end ≡ end)
+PlainLeads p plans old new None = Standing p plans new × SameRun old new × (next_part new ≢ Plain)
+    × (logged_regions p plans (rest_of_run old) ≡ logged_regions p plans (rest_of_run new)) × ((rest_of_run old).end ≡ (rest_of_run new).end)
+PlainLeads p plans old new (Some end) = (logged_regions p plans (rest_of_run old) ≡ []) × ((rest_of_run old).end ≡ end)
 
 -- The plan's region comes next for the machine, whose fuel is small.
 pub record AtRegion (p : Program) (plan : Plan) (m : MachineState) : Type 0 where

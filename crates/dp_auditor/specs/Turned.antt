@@ -20,7 +20,8 @@ pub record NextCompared (i : ℕ) (printed : List ℤ) (v w : Viewed) (old new :
   pub kept : w ≡ begun_next (is_some v.found) (settled v)
 
 -- .. which none follows, and which ended so, with these cells behind it
-pub record LastCompared (p : Program) (plan : Plan) (end : IterEnd) (i : ℕ) (printed cells : List ℤ) (v : Viewed) (old new : Compared) (comes : After) : Type 0 where
+pub record LastCompared (p : Program) (plan : Plan) (end : IterEnd) (i : ℕ) (printed cells : List ℤ) (v : Viewed) (old new : Compared)
+    (comes : After) : Type 0 where
   pub line : Option ℕ
   pub compares : Compares old new (group_bytes i (last_of end v.found).1 (sets_between v.before (clear_locals plan.region p.vars cells)) printed) line
   pub comes_is : comes ≡ unless_differs line (last_of end v.found).0
@@ -28,7 +29,9 @@ pub record LastCompared (p : Program) (plan : Plan) (end : IterEnd) (i : ℕ) (p
 -- .. of an iteration that ended so, whether one follows it or not
 abbrev pub OneCompared : Program → Plan → IterEnd → ℕ → List ℤ → List ℤ → Viewed → Viewed → Compared → Compared → Option After → Type 0
 OneCompared p plan Next i printed cells v w old new comes = NextCompared i printed v w old new comes
-OneCompared p plan Closed i printed cells v w old new comes = (after : After) × (comes ≡ Some after) × LastCompared p plan Closed i printed cells v old new after
-OneCompared p plan (Fault fault) i printed cells v w old new comes = (after : After) × (comes ≡ Some after) × LastCompared p plan (Fault fault) i printed cells v old new after
+OneCompared p plan Closed i printed cells v w old new comes =
+    (after : After) × (comes ≡ Some after) × LastCompared p plan Closed i printed cells v old new after
+OneCompared p plan (Fault fault) i printed cells v w old new comes =
+    (after : After) × (comes ≡ Some after) × LastCompared p plan (Fault fault) i printed cells v old new after
 OneCompared p plan Fuel i printed cells v w old new comes = (after : After) × (comes ≡ Some after) × LastCompared p plan Fuel i printed cells v old new after
 OneCompared p plan Going i printed cells v w old new comes = (after : After) × (comes ≡ Some after) × LastCompared p plan Going i printed cells v old new after

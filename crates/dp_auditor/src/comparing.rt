@@ -63,7 +63,7 @@ impl<'l> Comparing<'l> {
     /// Compares the next piece of the text. Where the log has another there, or ends within it, the first line that differs is
     /// answered, whatever comes behind the piece.
     pub(crate) fn take(&mut self, piece: &[u8]) -> Option<u32>
-        ensures passes { IfNone result (definition.Passes self.old self.new piece.now) }
+        ensures passes { IfNone result (definition.PassesPiece self.old self.new piece.now) }
         ensures fails { IfSome result (λ line. (later : List ℕ) → definition.Fails self.old (piece.now ++ later) line) }
     {
         let same = shared(piece, &self.log[self.place..]);

@@ -8,7 +8,7 @@ ghost use Rattle.dp_auditor.specs.Gathered.{sets_between};
 ghost use Rattle.dp_auditor.specs.Ending as definition;
 ghost use Rattle.dp_auditor.specs.Regions.{AtRegion};
 ghost use Rattle.dp_auditor.specs.Turned.{LastCompared, OneCompared};
-ghost use Rattle.dp_auditor.specs.Walking.{IterationsCompared, RegionCompared, Starts};
+ghost use Rattle.dp_auditor.specs.Walking.{IterationsCompared, RegionCompared, StartsAtRegion};
 
 use crate::comparing::Comparing;
 use crate::lines::{Lines, without_locals};
@@ -92,7 +92,9 @@ fn compare_next(
 ) -> Result<Option<u32>, NoMemory>
     requires before { Cleared views.old.program views.old.plan views.old.before }
     ensures views { IfOk result (λ _. views.new ≡ definition.begun_next (is_some views.old.found) (settled views.old)) }
-    ensures text { IfOk result (Compares compared.old compared.new (group_bytes iteration (is_some views.old.found) (sets_between views.old.before (settled views.old).source) prints.now)) }
+    ensures text { IfOk result
+        (Compares compared.old compared.new (group_bytes iteration (is_some views.old.found)
+        (sets_between views.old.before (settled views.old).source) prints.now)) }
 {
     let again = views.found().is_some();
     views.settle();
@@ -113,7 +115,8 @@ fn compare_last(
     lines: &mut Lines,
     compared: &mut Comparing<'_>,
 ) -> Result<After, NoMemory>
-    ensures { IfOk result (LastCompared program.now plan.now made.entry.end made.entry.iteration made.entry.prints.now ahead.now.config.cells views.now compared.old compared.new) }
+    ensures { IfOk result (LastCompared program.now plan.now made.entry.end made.entry.iteration made.entry.prints.now ahead.now.config.cells views.now
+        compared.old compared.new) }
 {
     let (after, again) = last_of(made.end, views.found());
     let memory = without_locals(alloc, program, plan.region, ahead.cells())?;
@@ -140,7 +143,8 @@ fn compare_one(
     compared: &mut Comparing<'_>,
 ) -> Result<Option<After>, NoMemory>
     requires before { made.end ≡ IterEnd.Next → Cleared views.old.program views.old.plan views.old.before }
-    ensures { IfOk result (OneCompared program.now plan.now made.entry.end made.entry.iteration made.entry.prints.now ahead.now.config.cells views.old views.new compared.old compared.new) }
+    ensures { IfOk result (OneCompared program.now plan.now made.entry.end made.entry.iteration made.entry.prints.now ahead.now.config.cells views.old views.new
+        compared.old compared.new) }
 {
     match made.end {
         IterEnd::Next => {
@@ -165,7 +169,7 @@ fn compare_iterations(
     views: &mut Views<'_>,
     compared: &mut Comparing<'_>,
 ) -> Result<After, NoMemory>
-    requires starts { Starts ahead.old behind.old views.old }
+    requires starts { StartsAtRegion ahead.old behind.old views.old }
     requires program { views.old.program ≡ program.now }
     requires plan { views.old.plan ≡ plan.now }
     ensures { IfOk result (IterationsCompared program.now plan.now ahead.old ahead.new compared.old compared.new) }

@@ -1,7 +1,7 @@
 //! The source's steps, watched one by one.
 ghost use Rattle.std.specs.Prelude.{List, IfOk};
 ghost use Rattle.dp_tree.specs.Step.{Event};
-ghost use Rattle.dp_view.specs.Heard.{Comes, Went};
+ghost use Rattle.dp_view.specs.Heard.{Comes, WereMade};
 
 use dp_base::{NoMemory, Row};
 use dp_meaning::{Loads, Machine, Sight};
@@ -15,7 +15,8 @@ pub(crate) fn follow(
     loads: &mut Loads,
     out: &mut Row<i64>,
 ) -> Result<(), NoMemory>
-    ensures { IfOk result (λ _. (events later : List Event) → Comes machine.old until views.old.source events later → Went machine.new until views.old views.new events later) }
+    ensures { IfOk result (λ _. (events later : List Event) → Comes machine.old until views.old.source events later →
+        WereMade machine.new until views.old views.new events later) }
 {
     while machine.steps() < until {
         out.clear();

@@ -1,6 +1,6 @@
 //! The numbers that are limits, in one table. Code and definitions cite them from here.
 ghost use Rattle.std.specs.Prelude.{◌≡◌, ◌≤◌, ◌+◌};
-ghost use Rattle.dp_base.specs.Counts.{reported};
+ghost use Rattle.dp_base.specs.Counts.{reported_count};
 
 /// Bytes of a program's text.
 pub const PROGRAM_BYTES: u32 = 65_536;
@@ -62,7 +62,7 @@ pub const LISTED: u32 = 1_000;
 pub fn counted_sum(a: u32, b: u32) -> u32
     requires left { a ≤ COUNTED }
     requires right { b ≤ COUNTED }
-    ensures { result ≡ reported (a + b) }
+    ensures { result ≡ reported_count (a + b) }
 {
     (a + b).min(COUNTED)
 }

@@ -8,8 +8,8 @@ use Rattle.dp_plan.specs.declared.Plan.{Plan}
 use Rattle.dp_run.specs.RunText.{source_run, trace_text}
 
 -- the text of a run within this fuel, without causes
-abbrev pub run_text : Program → List Plan → ℕ → List ℤ → List ℕ
-run_text p plans fuel input = trace_text p plans (source_run p input fuel) false
+abbrev pub batched_run_text : Program → List Plan → ℕ → List ℤ → List ℕ
+batched_run_text p plans fuel input = trace_text p plans (source_run p input fuel) false
 
 -- the line in front of the text of the input with this number
 abbrev pub input_line : ℕ → List ℕ
@@ -22,7 +22,7 @@ texts_from text number (input ∷ rest) = (input_line number ++ text input) ++ t
 
 -- the text of a batch: the inputs have the numbers from 1 on
 abbrev pub batch_bytes : Program → List Plan → ℕ → List (List ℤ) → List ℕ
-batch_bytes p plans fuel inputs = texts_from (run_text p plans fuel) 1 inputs
+batch_bytes p plans fuel inputs = texts_from (batched_run_text p plans fuel) 1 inputs
 
 -- these are what `text` gives of each input, but where memory was wanting
 abbrev pub AreTexts : (List ℤ → List ℕ) → List (List ℤ) → List (Result (List ℕ) NoMemory) → Type 0

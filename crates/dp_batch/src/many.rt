@@ -1,6 +1,6 @@
 //! The runs of all inputs, several at once.
 ghost use Rattle.std.specs.Prelude.{◌≡◌, ◌≤◌, ◌<◌, ℤ, List, All, length, slice_index_or, IfOk};
-ghost use Rattle.dp_batch.specs.BatchText.{AreTexts, batch_bytes, run_text};
+ghost use Rattle.dp_batch.specs.BatchText.{AreTexts, batch_bytes, batched_run_text};
 
 use crate::joining::{Text, joined};
 use crate::seats::Seats;
@@ -46,7 +46,7 @@ fn texts_of<R: Threads + Wait + Clock + Sync>(
 ) -> Result<Vec<Text>, NoMemory>
     requires words { All (λ input. length input ≤ 65536) inputs.now }
     requires fuel { fuel ≤ 1000000000 }
-    ensures { IfOk result (λ texts. AreTexts (run_text prepared.now.program prepared.now.plans fuel) inputs.now texts.items) }
+    ensures { IfOk result (λ texts. AreTexts (batched_run_text prepared.now.program prepared.now.plans fuel) inputs.now texts.items) }
 {
     let sharing = share(processors(rt), inputs.len(), prepared.regions(), size);
     let (made, size) = (Seats::new(sharing.at_once), sharing.size);
@@ -58,7 +58,8 @@ fn texts_of<R: Threads + Wait + Clock + Sync>(
         THREADS,
         &|place: usize, text: &mut Text|
             requires { (place < length inputs.now) × All (λ input. length input ≤ 65536) inputs.now × (fuel ≤ 1000000000) }
-            ensures { (d : List ℤ) → IfOk text.exit.now (λ bytes. bytes ≡ run_text prepared.entry.now.program prepared.entry.now.plans fuel (slice_index_or inputs.entry.now place d)) }
+            ensures { (d : List ℤ) → IfOk text.exit.now (λ bytes. bytes ≡ batched_run_text prepared.entry.now.program prepared.entry.now.plans fuel
+                (slice_index_or inputs.entry.now place d)) }
         { *text = text_at(rt, alloc, prepared, inputs, place, fuel, size, seats) },
     );
     Ok(texts)
@@ -89,7 +90,7 @@ fn text_at<R: Threads + Wait + Clock + Sync>(
     requires place { place < length inputs.now }
     requires words { All (λ input. length input ≤ 65536) inputs.now }
     requires fuel { fuel ≤ 1000000000 }
-    ensures { (d : List ℤ) → IfOk result (λ bytes. bytes ≡ run_text prepared.now.program prepared.now.plans fuel (slice_index_or inputs.now place d)) }
+    ensures { (d : List ℤ) → IfOk result (λ bytes. bytes ≡ batched_run_text prepared.now.program prepared.now.plans fuel (slice_index_or inputs.now place d)) }
 {
     seats.take(rt);
     let text = one(rt, alloc, prepared, inputs[place].as_slice(), fuel, size);

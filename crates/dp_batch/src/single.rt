@@ -1,6 +1,6 @@
 //! One run, with its text in memory.
 ghost use Rattle.std.specs.Prelude.{◌≡◌, ◌≤◌, length, IfOk};
-ghost use Rattle.dp_batch.specs.BatchText.{run_text};
+ghost use Rattle.dp_batch.specs.BatchText.{batched_run_text};
 
 use dp_base::{NoMemory, Row};
 use dp_edge::{MemSink, OpenGate};
@@ -21,7 +21,7 @@ pub fn one<R: Threads + Wait + Clock + Sync>(
 ) -> Result<Row<u8>, NoMemory>
     requires words { length input.now ≤ 65536 }
     requires fuel { fuel ≤ 1000000000 }
-    ensures { IfOk result (λ bytes. bytes ≡ run_text prepared.now.program prepared.now.plans fuel input.now) }
+    ensures { IfOk result (λ bytes. bytes ≡ batched_run_text prepared.now.program prepared.now.plans fuel input.now) }
 {
     let mut sink = MemSink::new(alloc, None);
     let mut tally = Tally::new(Unwatched);

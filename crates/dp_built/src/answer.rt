@@ -3,7 +3,7 @@ ghost use Rattle.std.specs.Prelude.{◌<◌, ◌-◌, ◌^◌};
 
 use dp_drive::drive;
 use dp_edge::{OpenGate, Shelf};
-use dp_messages::{Kept, Line, Shown, tell};
+use dp_messages::{Choices, Kept, Line, Shown, asks_choices, tell, tell_choices};
 use dp_run::{NativeCode, Tally};
 use dp_system::{FileShelf, OutSink, OwnText, keep_freed_memory};
 use std::alloc::AllocGlobal;
@@ -64,7 +64,8 @@ where
     keep_freed_memory(rt.alloc());
     let shown = Shown::new(errors);
     let mut output = Kept::new(rt.alloc(), OutSink::new(rt), &shown);
-    let progress = Line::new(rt.alloc(), rt, &shown, is_watched(rt, errors));
+    let choices = Choices::new(rt.alloc(), asks_choices(rt));
+    let progress = Line::new(rt.alloc(), rt, &shown, is_watched(rt, errors), choices);
     let mut tally = Tally::new(progress);
     let status = drive(
         rt,
@@ -78,6 +79,8 @@ where
     );
     shown.wipe();
     tell_more(rt, errors, words, files_again, status, output.tail());
+    let mut told = OutSink::new(errors);
+    let _ = tell_choices(rt.alloc(), tally.watch().choices(), &mut told);
     status
 }
 

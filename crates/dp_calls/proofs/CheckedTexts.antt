@@ -1,5 +1,6 @@
 -- What is so of the texts of a checked program: of `main` and of each function.
-use Rattle.std.proofs.Common.{◌≡◌, refl, ap, ◌∙◌, subst, ℕ, zero, suc, ◌+◌, ◌-◌, ◌<◌, ◌≤◌, true, List, [], ◌∷◌, ◌++◌, length, Option, Some, slice_get, arith, lt-ltb}
+use Rattle.std.proofs.Common.{◌≡◌, refl, ap, ◌∙◌, subst, ℕ, zero, suc, ◌+◌, ◌-◌, ◌<◌, ◌≤◌, true, List, [], ◌∷◌, ◌++◌, length, Option, Some, slice_get, arith}
+use Rattle.std.proofs.Common.{lt-ltb}
 use Rattle.std.specs.List.{list_all, flat_map}
 use Rattle.dp_tree.specs.declared.Function.{Function}
 use Rattle.dp_tree.specs.declared.Program.{Program}
@@ -23,13 +24,15 @@ listed_from p first zero within some = refl
 listed_from p first (suc n) within some =
     let less : first - 1 < length p.sites = omega (arith, within, some) in
     let rest : first + 1 + n ≤ suc (length p.sites) = omega (arith, within) in
-    and_make (is_listed p first) (list_all (is_listed p) (numbers_from (first + 1) n)) (lt-ltb (first - 1) (length p.sites) less) (listed_from p (first + 1) n rest (omega arith))
+    and_make (is_listed p first) (list_all (is_listed p) (numbers_from (first + 1) n)) (lt-ltb (first - 1) (length p.sites) less)
+    (listed_from p (first + 1) n rest (omega arith))
 
 abbrev pub numbers_in_functions : List Function → List ℕ
 numbers_in_functions fs = flat_map (λ (f : Function). site_numbers_all f.body) fs
 
 module _ (p : Program) where
-  text_at : (k : ℕ) (fs : List Function) → functions_in_scope p k fs ≡ true → list_all is_plain_function fs ≡ true → list_all (is_listed p) (numbers_in_functions fs) ≡ true → (j : ℕ) → TextOf p (k + j) (slice_get fs j)
+  text_at : (k : ℕ) (fs : List Function) → functions_in_scope p k fs ≡ true → list_all is_plain_function fs ≡ true →
+      list_all (is_listed p) (numbers_in_functions fs) ≡ true → (j : ℕ) → TextOf p (k + j) (slice_get fs j)
   text_at k [] scoped plain listed j = record { params = refl; scoped = refl; plain = refl; listed = refl }
   text_at k (f ∷ fs) scoped plain listed j =
       let both = and_true (function_in_scope p k f) (functions_in_scope p (suc k) fs) scoped in
@@ -60,4 +63,5 @@ module _ (p : Program) where
     text_of f =
         let same : 0 + f ≡ f = omega arith in
         subst (λ (n : ℕ). TextOf p n (slice_get p.functions f)) same
-        (text_at 0 p.functions scoped_both.0 checked.functions (all_parts (is_listed p) (site_numbers_all p.main) (numbers_in_functions p.functions) all_listed).1 f)
+        (text_at 0 p.functions scoped_both.0 checked.functions (all_parts (is_listed p) (site_numbers_all p.main)
+        (numbers_in_functions p.functions) all_listed).1 f)

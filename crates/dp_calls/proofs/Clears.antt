@@ -1,5 +1,6 @@
 -- Where a region stands at the head its body locals are cleared, and nothing else; so in the frame and in the expanded memory.
-use Rattle.std.proofs.Common.{◌≡◌, refl, sym, ap, ◌∙◌, ℕ, suc, ◌+◌, ◌-◌, ◌≤◌, Bool, true, false, if◌then◌else◌, List, [], ◌∷◌, ◌++◌, ℤ, pos, length, get_or, Some, slice_get, slice_set, arith, get_or-set_other, ◌⊎◌, inl, inr, subst}
+use Rattle.std.proofs.Common.{◌≡◌, refl, sym, ap, ◌∙◌, ℕ, suc, ◌+◌, ◌-◌, ◌≤◌, Bool, true, false, if◌then◌else◌, List, [], ◌∷◌, ◌++◌, ℤ, pos, length, get_or}
+use Rattle.std.proofs.Common.{Some, slice_get, slice_set, arith, get_or-set_other, ◌⊎◌, inl, inr, subst}
 use Rattle.std.proofs.lemmas.List.{length-set, set-append_right}
 use Rattle.dp_tree.specs.declared.VarInfo.{VarInfo}
 use Rattle.dp_tree.specs.declared.VarScope.{VarScope}
@@ -8,7 +9,8 @@ use Rattle.dp_tree.specs.declared.Program.{Program}
 use Rattle.dp_tree.specs.Globals.{is_global_scope}
 use Rattle.dp_tree.specs.Step.{is_local_of, clear_locals, cleared_at, standing}
 use Rattle.dp_calls.specs.Renaming.{named_in}
-use Rattle.dp_calls.proofs.Relation.{Env, PlaceOf, file, own, file_count, IsEnv, Quiet, is_quiet, Held, held, Agree, Laid, Acts, assigns, stores, prints, branches, loops, marks, act, call, Todo, none, next, exit, leave}
+use Rattle.dp_calls.proofs.Relation.{Env, PlaceOf, file, own, file_count, IsEnv, Quiet, is_quiet, Held, held, Agree, Laid, Acts, assigns, stores, prints}
+use Rattle.dp_calls.proofs.Relation.{branches, loops, marks, act, call, Todo, none, next, exit, leave}
 use Rattle.dp_tree.specs.declared.Stmt.{Stmt, out-Stmt}
 use Rattle.dp_tree.specs.declared.Stmt.TheOpen.{Stmt-F}
 use Rattle.dp_calls.specs.Frame.{Frame, global_count}
@@ -26,7 +28,8 @@ length_if false l i = refl
 pub clear_own-length : (first r : ℕ) (vars : List VarInfo) (l : List ℤ) → length (clear_own first r vars l) ≡ length l
 clear_own-length first r [] l = refl
 clear_own-length first r (x ∷ xs) l =
-    clear_own-length first r xs (if is_local_of r x.scope then slice_set l (x.first.0 - first) (pos 0) else l) ∙ length_if (is_local_of r x.scope) l (x.first.0 - first)
+    clear_own-length first r xs (if is_local_of r x.scope then slice_set l (x.first.0 - first) (pos 0) else l)
+    ∙ length_if (is_local_of r x.scope) l (x.first.0 - first)
 
 -- the cells of the body locals lie behind the first ones
 Behind : ℕ → ℕ → List VarInfo → Type 0
@@ -37,7 +40,8 @@ memory_if : (g l : List ℤ) (i : ℕ) (t : Bool) (b : Bool) → b ≡ t → (b 
 memory_if g l i true b e h = set-append_right g l (length g) i (pos 0) refl (h e)
 memory_if g l i false b e h = refl
 
-memory_cleared : (g : List ℤ) (r : ℕ) (vars : List VarInfo) (l : List ℤ) → Behind (length g) r vars → clear_locals r vars (g ++ l) ≡ g ++ clear_own (length g) r vars l
+memory_cleared : (g : List ℤ) (r : ℕ) (vars : List VarInfo) (l : List ℤ) → Behind (length g) r vars → clear_locals r vars (g ++ l) ≡ g
+    ++ clear_own (length g) r vars l
 unfolding Behind
 memory_cleared g r [] l behind = refl
 memory_cleared g r (x ∷ xs) l behind =
@@ -77,7 +81,8 @@ module _ (count cells : ℕ) (vars : List VarInfo) (lies : (k : ℕ) (info : Var
       ∙ ap (λ (n : ℕ). g ++ clear_own n r vars l) whole
 
   -- a variable that is none keeps its value
-  pub quiet_clears : (x : ℕ) (l : List ℤ) → count ≤ x → is_quiet r (slice_get vars x) ≡ false → get_or (clear_own cells r vars l) (x - count) (pos 0) ≡ get_or l (x - count) (pos 0)
+  pub quiet_clears : (x : ℕ) (l : List ℤ) → count ≤ x → is_quiet r (slice_get vars x) ≡ false → get_or (clear_own cells r vars l) (x - count) (pos 0) ≡ get_or
+      l (x - count) (pos 0)
   unfolding Others
   quiet_clears x l behind quiet =
       other_cleared cells r (x - count) vars l (λ k info at is same.
@@ -87,7 +92,8 @@ module _ (count cells : ℕ) (vars : List VarInfo) (lies : (k : ℕ) (info : Var
 
 module _ (p q : Program) (e : Env) (env : IsEnv p q e) where
   quiet_held : (r : ℕ) (l m h k : List ℤ) (x : ℕ) → Held p q e l h x →
-      ((y : ℕ) → named_in e.names x ≡ Some y → (get_or m (x - file_count p) (pos 0) ≡ get_or l (x - file_count p) (pos 0)) × (get_or k (y - file_count p) (pos 0) ≡ get_or h (y - file_count p) (pos 0))) →
+      ((y : ℕ) → named_in e.names x ≡ Some y → (get_or m (x - file_count p) (pos 0) ≡ get_or l (x - file_count p) (pos 0))
+      × (get_or k (y - file_count p) (pos 0) ≡ get_or h (y - file_count p) (pos 0))) →
       Held p q e m k x
   quiet_held r l m h k x (file less) keep = file less
   quiet_held r l m h k x (held y named same) keep = let both = keep y named in held y named (both.0 ∙ same ∙ sym both.1)
@@ -117,15 +123,31 @@ module _ (p q : Program) (laid : Laid p q) where
     pub where_main : (cells ≡ h) ⊎ (e.calls ≡ length p.functions)
 
   module _ {e : Env} (env : IsEnv p q e) {visible : List ℕ} (l h : List ℤ) (agree : Agree p q e visible l h) where
-    plainly : (s t : Stmt) → ((g : List ℤ) → cleared_at p (out-Stmt s) (g ++ l) ≡ g ++ l) → ((g : List ℤ) → cleared_at q (out-Stmt t) (g ++ h) ≡ g ++ h) → Cleared e visible s t l h
-    plainly s t a b = record { locals = l; cells = h; source = λ g w. a g; target = λ g w. b g; half = agree; agree = agree; long = refl; wide = refl; where_main = inl refl }
+    plainly : (s t : Stmt) → ((g : List ℤ) → cleared_at p (out-Stmt s) (g ++ l) ≡ g ++ l) → ((g : List ℤ) → cleared_at q (out-Stmt t) (g ++ h) ≡ g ++ h) →
+        Cleared e visible s t l h
+    plainly s t a b = record {
+      locals = l;
+      cells = h;
+      source = λ g w. a g;
+      target = λ g w. b g;
+      half = agree;
+      agree = agree;
+      long = refl;
+      wide = refl;
+      where_main = inl refl;
+    }
 
     pub acts_cleared : {behind : List ℕ} {s t : Stmt} → Acts p q e visible behind s t → Cleared e visible s t l h
-    acts_cleared {s = s} {t = t} (assigns a b _ _ _) = plainly s t (λ g. ap (λ (x : Stmt-F Stmt). cleared_at p x (g ++ l)) a) (λ g. ap (λ (x : Stmt-F Stmt). cleared_at q x (g ++ h)) b)
-    acts_cleared {s = s} {t = t} (stores a b _ _ _ _) = plainly s t (λ g. ap (λ (x : Stmt-F Stmt). cleared_at p x (g ++ l)) a) (λ g. ap (λ (x : Stmt-F Stmt). cleared_at q x (g ++ h)) b)
-    acts_cleared {s = s} {t = t} (prints a b _ _) = plainly s t (λ g. ap (λ (x : Stmt-F Stmt). cleared_at p x (g ++ l)) a) (λ g. ap (λ (x : Stmt-F Stmt). cleared_at q x (g ++ h)) b)
-    acts_cleared {s = s} {t = t} (branches a b _ _ _ _) = plainly s t (λ g. ap (λ (x : Stmt-F Stmt). cleared_at p x (g ++ l)) a) (λ g. ap (λ (x : Stmt-F Stmt). cleared_at q x (g ++ h)) b)
-    acts_cleared {s = s} {t = t} (loops a b _ _ _) = plainly s t (λ g. ap (λ (x : Stmt-F Stmt). cleared_at p x (g ++ l)) a) (λ g. ap (λ (x : Stmt-F Stmt). cleared_at q x (g ++ h)) b)
+    acts_cleared {s = s} {t = t} (assigns a b _ _ _) =
+        plainly s t (λ g. ap (λ (x : Stmt-F Stmt). cleared_at p x (g ++ l)) a) (λ g. ap (λ (x : Stmt-F Stmt). cleared_at q x (g ++ h)) b)
+    acts_cleared {s = s} {t = t} (stores a b _ _ _ _) =
+        plainly s t (λ g. ap (λ (x : Stmt-F Stmt). cleared_at p x (g ++ l)) a) (λ g. ap (λ (x : Stmt-F Stmt). cleared_at q x (g ++ h)) b)
+    acts_cleared {s = s} {t = t} (prints a b _ _) =
+        plainly s t (λ g. ap (λ (x : Stmt-F Stmt). cleared_at p x (g ++ l)) a) (λ g. ap (λ (x : Stmt-F Stmt). cleared_at q x (g ++ h)) b)
+    acts_cleared {s = s} {t = t} (branches a b _ _ _ _) =
+        plainly s t (λ g. ap (λ (x : Stmt-F Stmt). cleared_at p x (g ++ l)) a) (λ g. ap (λ (x : Stmt-F Stmt). cleared_at q x (g ++ h)) b)
+    acts_cleared {s = s} {t = t} (loops a b _ _ _) =
+        plainly s t (λ g. ap (λ (x : Stmt-F Stmt). cleared_at p x (g ++ l)) a) (λ g. ap (λ (x : Stmt-F Stmt). cleared_at q x (g ++ h)) b)
     acts_cleared {s = s} {t = t} (marks {r = r} a b _ _ _ quiet main) = record {
       locals = clear_own (global_count p) r p.vars l;
       cells = clear_own (global_count p) r q.vars h;
@@ -142,7 +164,8 @@ module _ (p q : Program) (laid : Laid p q) where
     }
 
   -- only in `main` is anything cleared, and no frame is below that of `main`
-  pub stack_cleared : {e : Env} {below : List Frame} {rest : List Stmt} {h k : List ℤ} → (k ≡ h) ⊎ (e.calls ≡ length p.functions) → Stack p q e below rest h → Stack p q e below rest k
+  pub stack_cleared : {e : Env} {below : List Frame} {rest : List Stmt} {h k : List ℤ} → (k ≡ h) ⊎ (e.calls ≡ length p.functions) → Stack p q e below rest h →
+      Stack p q e below rest k
   stack_cleared {e = e} {below = below} {rest = rest} (inl same) stack = subst (λ (m : List ℤ). Stack p q e below rest m) (sym same) stack
   stack_cleared (inr main) bottom = bottom
   stack_cleared (inr main) (over suits nested stack is) = absurd (omega (arith, main, nested.calls, suits.env.earlier))
@@ -156,13 +179,30 @@ module _ (p q : Program) (laid : Laid p q) where
     pub long : length locals ≡ length l
     pub is : (g : List ℤ) → length g ≡ global_count p → (standing p statements (g ++ l)).cells ≡ g ++ locals
 
-  pub stands : {e : Env} (env : IsEnv p q e) {visible : List ℕ} {statements code : List Stmt} (l h : List ℤ) → Agree p q e visible l h → Todo p q e visible statements code → Stood e statements code l h
+  pub stands : {e : Env} (env : IsEnv p q e) {visible : List ℕ} {statements code : List Stmt} (l h : List ℤ) → Agree p q e visible l h →
+      Todo p q e visible statements code → Stood e statements code l h
   stands env {visible = visible} l h agree none = record { locals = l; outer = visible; todo = none; agree = agree; long = refl; is = λ g w. refl }
   stands env {visible = visible} l h agree (next (act a) todo is) =
       let c = acts_cleared env l h agree a in
       record { locals = c.locals; outer = visible; todo = next (act a) todo is; agree = c.half; long = c.long; is = c.source }
   stands env {visible = visible} l h agree (next (call a b c d f g k) todo is) =
-      record { locals = l; outer = visible; todo = next (call a b c d f g k) todo is; agree = agree; long = refl; is = λ m w. ap (λ (x : Stmt-F Stmt). cleared_at p x (m ++ l)) a }
+      record {
+        locals = l;
+        outer = visible;
+        todo = next (call a b c d f g k) todo is;
+        agree = agree;
+        long = refl;
+        is = λ m w. ap (λ (x : Stmt-F Stmt).
+            cleared_at p x (m ++ l)) a;
+      }
   stands env {visible = visible} l h agree (exit tries todo facts left is) =
-      record { locals = l; outer = visible; todo = exit tries todo facts left is; agree = agree; long = refl; is = λ m w. ap (λ (x : Stmt-F Stmt). cleared_at p x (m ++ l)) tries.source }
+      record {
+        locals = l;
+        outer = visible;
+        todo = exit tries todo facts left is;
+        agree = agree;
+        long = refl;
+        is = λ m w. ap (λ (x : Stmt-F Stmt). cleared_at p
+            x (m ++ l)) tries.source;
+      }
   stands env l h agree (leave sub todo) = stands env l h (λ x seen. agree x (sub x seen)) todo

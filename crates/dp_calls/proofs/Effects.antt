@@ -1,5 +1,6 @@
 -- A statement and the one that stands for it evaluate alike: the same fault, or effects that leave the same values.
-use Rattle.std.proofs.Common.{◌≡◌, refl, subst, ℕ, ◌+◌, ◌<◌, Bool, true, false, if◌then◌else◌, List, [], ◌∷◌, ◌++◌, ℤ, pos, negsuc, length, slice_set, Result, Ok, Err, nat_lt, arith, ltb-true}
+use Rattle.std.proofs.Common.{◌≡◌, refl, subst, ℕ, ◌+◌, ◌<◌, Bool, true, false, if◌then◌else◌, List, [], ◌∷◌, ◌++◌, ℤ, pos, negsuc, length, slice_set, Result}
+use Rattle.std.proofs.Common.{Ok, Err, nat_lt, arith, ltb-true}
 use Rattle.dp_base.specs.declared.FaultKind.{FaultKind}
 use Rattle.dp_base.specs.declared.FaultKind.TheVariants.{Index}
 use Rattle.dp_base.specs.declared.VarId.{VarId}
@@ -60,7 +61,8 @@ module _ {R : List ℤ → List ℤ → Type 0} {a b : List ℤ} where
   place_by i n f g false is each = faults Index
 
   -- alike at each place below the length
-  place_alike : (i : ℤ) (n : ℕ) (f g : ℕ → Evaluated Effect) → ((k : ℕ) → k < n → EvaluatesAlike R a b (f k) (g k)) → EvaluatesAlike R a b (and_then (place i n) f) (and_then (place i n) g)
+  place_alike : (i : ℤ) (n : ℕ) (f g : ℕ → Evaluated Effect) → ((k : ℕ) → k < n → EvaluatesAlike R a b (f k) (g k)) →
+      EvaluatesAlike R a b (and_then (place i n) f) (and_then (place i n) g)
   place_alike (pos i) n f g each = place_by i n f g (nat_lt i n) refl each
   place_alike (negsuc i) n f g each = faults Index
 
@@ -68,15 +70,19 @@ module _ {R : List ℤ → List ℤ → Type 0} {a b : List ℤ} where
   pub stores_alike : (c d : ℕ) → ((z : ℤ) → R (slice_set a c z) (slice_set b d z)) → (u v : Evaluated ℤ) → result_of u ≡ result_of v →
       EvaluatesAlike R a b (and_then u (λ z. just (Stored c z))) (and_then v (λ z. just (Stored d z)))
   stores_alike c d after u v same =
-      then_alike u v (λ z. just (Stored c z)) (λ z. just (Stored d z)) same (λ z. alone (Stored c z) (Stored d z) (record { value = refl; printed = refl; after = after z }))
+      then_alike u v (λ z. just (Stored c z)) (λ z. just (Stored d z)) same
+      (λ z. alone (Stored c z) (Stored d z) (record { value = refl; printed = refl; after = after z }))
 
-  pub prints_alike : R a b → (u v : Evaluated ℤ) → result_of u ≡ result_of v → EvaluatesAlike R a b (and_then u (λ z. just (Printed z))) (and_then v (λ z. just (Printed z)))
+  pub prints_alike : R a b → (u v : Evaluated ℤ) → result_of u ≡ result_of v → EvaluatesAlike R a b (and_then u (λ z. just (Printed z)))
+      (and_then v (λ z. just (Printed z)))
   prints_alike after u v same =
-      then_alike u v (λ z. just (Printed z)) (λ z. just (Printed z)) same (λ z. alone (Printed z) (Printed z) (record { value = refl; printed = refl; after = after }))
+      then_alike u v (λ z. just (Printed z)) (λ z. just (Printed z)) same
+      (λ z. alone (Printed z) (Printed z) (record { value = refl; printed = refl; after = after }))
 
   pub decides_alike : R a b → (u v : Evaluated ℤ) → result_of u ≡ result_of v → EvaluatesAlike R a b (decided u) (decided v)
   decides_alike after u v same =
-      then_alike u v (λ z. just (Decided z)) (λ z. just (Decided z)) same (λ z. alone (Decided z) (Decided z) (record { value = refl; printed = refl; after = after }))
+      then_alike u v (λ z. just (Decided z)) (λ z. just (Decided z)) same
+      (λ z. alone (Decided z) (Decided z) (record { value = refl; printed = refl; after = after }))
 
   -- an element is stored
   pub elements_alike : (c d m n : ℕ) → m ≡ n → ((k : ℕ) → k < m → (z : ℤ) → R (slice_set a (c + k) z) (slice_set b (d + k) z)) →
@@ -85,9 +91,11 @@ module _ {R : List ℤ → List ℤ → Type 0} {a b : List ℤ} where
       (and_then i (λ i. and_then u (λ z. and_then (place i m) (λ k. just (Stored (c + k) z)))))
       (and_then j (λ i. and_then v (λ z. and_then (place i n) (λ k. just (Stored (d + k) z)))))
   elements_alike c d m n long after i j u v same_index same =
-      then_alike i j (λ i. and_then u (λ z. and_then (place i m) (λ k. just (Stored (c + k) z)))) (λ i. and_then v (λ z. and_then (place i n) (λ k. just (Stored (d + k) z)))) same_index
+      then_alike i j (λ i. and_then u (λ z. and_then (place i m) (λ k. just (Stored (c + k) z))))
+      (λ i. and_then v (λ z. and_then (place i n) (λ k. just (Stored (d + k) z)))) same_index
       (λ i. then_alike u v (λ z. and_then (place i m) (λ k. just (Stored (c + k) z))) (λ z. and_then (place i n) (λ k. just (Stored (d + k) z))) same
-      (λ z. subst (λ (l : ℕ). EvaluatesAlike R a b (and_then (place i m) (λ k. just (Stored (c + k) z))) (and_then (place i l) (λ k. just (Stored (d + k) z)))) long
+      (λ z. subst (λ (l : ℕ). EvaluatesAlike R a b (and_then (place i m) (λ k. just (Stored (c + k) z)))
+      (and_then (place i l) (λ k. just (Stored (d + k) z)))) long
       (place_alike i m (λ k. just (Stored (c + k) z)) (λ k. just (Stored (d + k) z))
       (λ k below. alone (Stored (c + k) z) (Stored (d + k) z) (record { value = refl; printed = refl; after = after k below z })))))
 
@@ -105,7 +113,8 @@ module _ (p q : Program) (laid : Laid p q) (input : List ℤ) (e : Env) (env : I
   stored_held : (x : VarId) (k : ℕ) (z : ℤ) → Held p q e l h x.0 → k < cell_count p x →
       Left visible (slice_set (g ++ l) (first_cell p x + k) z) (slice_set (g ++ h) (first_cell q (target_of e.names x) + k) z)
   stored_held x k z (file less) below = file_stored p q e env laid visible g l h whole room agree x k z less below
-  stored_held x k z (held y named same) below = fewer p q visible (λ w seen. sees_more x.0 visible w seen) (own_stored p q e env laid visible g l h whole room agree x y k z named below)
+  stored_held x k z (held y named same) below =
+      fewer p q visible (λ w seen. sees_more x.0 visible w seen) (own_stored p q e env laid visible g l h whole room agree x y k z named below)
 
   pub element_stored : (x : VarId) → sees visible x ≡ true → (k : ℕ) → k < cell_count p x → (z : ℤ) →
       Left visible (slice_set (g ++ l) (first_cell p x + k) z) (slice_set (g ++ h) (first_cell q (target_of e.names x) + k) z)

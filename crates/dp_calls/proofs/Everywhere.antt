@@ -25,19 +25,24 @@ module _ (test : Stmt → Bool) where
   pub pass_join : (a b : List Stmt) → all_pass a ≡ true → all_pass b ≡ true → all_pass (a ++ b) ≡ true
   pass_join a b h k = list_all-append (everywhere test) a b ∙ and_make (all_pass a) (all_pass b) h k
 
-  pub pass-If : (site : SiteId) (e : Expr) (a b : List Stmt) → test (tree.If site e a b) ≡ true → all_pass a ≡ true → all_pass b ≡ true → everywhere test (tree.If site e a b) ≡ true
+  pub pass-If : (site : SiteId) (e : Expr) (a b : List Stmt) → test (tree.If site e a b) ≡ true → all_pass a ≡ true → all_pass b ≡ true →
+      everywhere test (tree.If site e a b) ≡ true
   unfolding opened_statement
   pass-If site e a b own h k =
-      and_make (test (tree.If site e a b)) (hidden_pass a && hidden_pass b) own (and_make (hidden_pass a) (hidden_pass b) (everywhere_hidden test a ∙ h) (everywhere_hidden test b ∙ k))
+      and_make (test (tree.If site e a b)) (hidden_pass a && hidden_pass b) own (and_make (hidden_pass a) (hidden_pass b) (everywhere_hidden test a ∙ h)
+      (everywhere_hidden test b ∙ k))
 
-  pub pass-While : (site : SiteId) (e : Expr) (a : List Stmt) → test (tree.While site e a) ≡ true → all_pass a ≡ true → everywhere test (tree.While site e a) ≡ true
+  pub pass-While : (site : SiteId) (e : Expr) (a : List Stmt) → test (tree.While site e a) ≡ true → all_pass a ≡ true →
+      everywhere test (tree.While site e a) ≡ true
   unfolding opened_statement
   pass-While site e a own h = and_make (test (tree.While site e a)) (hidden_pass a) own (everywhere_hidden test a ∙ h)
 
-  pub pass-Region : (r : ℕ) (site : SiteId) (e : Expr) (a : List Stmt) → test (tree.Region r site e a) ≡ true → all_pass a ≡ true → everywhere test (tree.Region r site e a) ≡ true
+  pub pass-Region : (r : ℕ) (site : SiteId) (e : Expr) (a : List Stmt) → test (tree.Region r site e a) ≡ true → all_pass a ≡ true →
+      everywhere test (tree.Region r site e a) ≡ true
   unfolding opened_statement
   pass-Region r site e a own h = and_make (test (tree.Region r site e a)) (hidden_pass a) own (everywhere_hidden test a ∙ h)
 
   -- a statement that shows as an assignment
-  pub pass_assigned : (s : Stmt) (site : SiteId) (x : VarId) (e : Expr) → out-Stmt s ≡ open_form.Assign site x e → test (tree.Assign site x e) ≡ true → everywhere test s ≡ true
+  pub pass_assigned : (s : Stmt) (site : SiteId) (x : VarId) (e : Expr) → out-Stmt s ≡ open_form.Assign site x e → test (tree.Assign site x e) ≡ true →
+      everywhere test s ≡ true
   pass_assigned s site x e is own = ap (everywhere test) (sym (roll-out-Stmt s) ∙ ap (λ (h : Stmt-F Stmt). roll-Stmt h) is ∙ rolls-Assign site x e) ∙ own

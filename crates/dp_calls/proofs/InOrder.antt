@@ -1,5 +1,6 @@
 -- The variables of an expanded program lie in order: the file-scope ones, and then one cell for each local.
-use Rattle.std.proofs.Common.{◌≡◌, refl, ap, ◌∙◌, ℕ, suc, ◌+◌, ◌<◌, ◌==◌, Bool, true, false, not, ◌&&◌, ◌||◌, if◌then◌else◌, List, [], ◌∷◌, ◌++◌, length, drop, length-append, replicate, Some, slice_get, nat_lt, arith, eq-eqb, lt-ltb}
+use Rattle.std.proofs.Common.{◌≡◌, refl, ap, ◌∙◌, ℕ, suc, ◌+◌, ◌<◌, ◌==◌, Bool, true, false, not, ◌&&◌, ◌||◌, if◌then◌else◌, List, [], ◌∷◌, ◌++◌, length, drop}
+use Rattle.std.proofs.Common.{length-append, replicate, Some, slice_get, nat_lt, arith, eq-eqb, lt-ltb}
 use Rattle.std.proofs.lemmas.List.{length-replicate}
 use Rattle.std.specs.List.{list_all}
 use Rattle.dp_tree.specs.declared.VarInfo.{VarInfo}
@@ -21,7 +22,8 @@ use Rattle.dp_room.proofs.ListLemmas.{get_behind}
 one_cell : (x : VarInfo) → x.length ≡ 1 → has_cells x ≡ true
 one_cell x e =
     let single : (x.length == 1) ≡ true = eq-eqb x.length 1 e in
-    and_make (nat_lt 0 x.length) (is_global_scope x.scope || (x.length == 1)) (let less : 0 < x.length = omega (arith, e) in lt-ltb 0 x.length less) (or_right (is_global_scope x.scope) (x.length == 1) single)
+    and_make (nat_lt 0 x.length) (is_global_scope x.scope || (x.length == 1)) (let less : 0 < x.length = omega (arith, e) in lt-ltb 0 x.length less)
+    (or_right (is_global_scope x.scope) (x.length == 1) single)
 
 -- each entry is a local, with one cell at its place
 abbrev LocalsFrom : ℕ → List VarInfo → Type 0
@@ -31,21 +33,26 @@ locals_lie : (k : ℕ) (xs : List VarInfo) → LocalsFrom k xs → (lies_in_orde
 locals_lie k [] h = (refl, refl)
 locals_lie k (x ∷ xs) h =
     let here = h 0 x refl in let first : x.first.0 ≡ k = omega (arith, here.0) in
-    let more = locals_lie (k + x.length) xs (λ j info at. let next = h (suc j) info at in let e : info.first.0 ≡ (k + x.length) + j = omega (arith, next.0, here.1.0) in (e, next.1)) in (
-      and_make ((x.first.0 == k) && has_cells x) (lies_in_order (k + x.length) xs) (and_make (x.first.0 == k) (has_cells x) (eq-eqb x.first.0 k first) (one_cell x here.1.0)) more.0,
+    let more = locals_lie (k + x.length) xs
+    (λ j info at. let next = h (suc j) info at in let e : info.first.0 ≡ (k + x.length) + j = omega (arith, next.0, here.1.0) in (e, next.1)) in (
+      and_make ((x.first.0 == k) && has_cells x) (lies_in_order (k + x.length) xs) (and_make (x.first.0 == k) (has_cells x) (eq-eqb x.first.0 k first)
+          (one_cell x here.1.0)) more.0,
       and_make (is_local_variable x) (list_all is_local_variable xs) (ap not here.1.1) more.1,
     )
 
 -- the file-scope variables of a program in order are in order
-files_lie : (k : ℕ) (xs : List VarInfo) → lies_in_order k xs ≡ true → globals_first xs ≡ true → (lies_in_order k (globals_in xs) ≡ true) × (globals_first (globals_in xs) ≡ true)
+files_lie : (k : ℕ) (xs : List VarInfo) → lies_in_order k xs ≡ true → globals_first xs ≡ true → (lies_in_order k (globals_in xs) ≡ true)
+    × (globals_first (globals_in xs) ≡ true)
 files_lie k [] lies first = (refl, refl)
 files_lie k (x ∷ rest) lies first =
     let parts = and_true ((x.first.0 == k) && has_cells x) (lies_in_order (k + x.length) rest) lies in
     by (is_global_scope x.scope) refl parts.0 first (files_lie (k + x.length) rest parts.1)
   where
-    by : (b : Bool) → is_global_scope x.scope ≡ b → ((x.first.0 == k) && has_cells x) ≡ true → (if b then globals_first rest else list_all is_local_variable rest) ≡ true →
+    by : (b : Bool) → is_global_scope x.scope ≡ b → ((x.first.0 == k) && has_cells x) ≡ true →
+        (if b then globals_first rest else list_all is_local_variable rest) ≡ true →
         (globals_first rest ≡ true → (lies_in_order (k + x.length) (globals_in rest) ≡ true) × (globals_first (globals_in rest) ≡ true)) →
-        (lies_in_order k (if b then x ∷ globals_in rest else globals_in rest) ≡ true) × (globals_first (if b then x ∷ globals_in rest else globals_in rest) ≡ true)
+        (lies_in_order k (if b then x ∷ globals_in rest else globals_in rest) ≡ true)
+        × (globals_first (if b then x ∷ globals_in rest else globals_in rest) ≡ true)
     by true is here more go =
         let rests = go more in (
           and_make ((x.first.0 == k) && has_cells x) (lies_in_order (k + x.length) (globals_in rest)) here rests.0,
@@ -69,7 +76,8 @@ lies_behind k [] b h l = let e : k ≡ k + 0 = omega arith in ap (λ (j : ℕ). 
 lies_behind k (x ∷ a) b h l =
     let both = and_true ((x.first.0 == k) && has_cells x) (lies_in_order (k + x.length) a) h in
     let more = cells_cons x a in let e : (k + x.length) + cells_of a ≡ k + cells_of (x ∷ a) = omega (arith, more) in
-    and_make ((x.first.0 == k) && has_cells x) (lies_in_order (k + x.length) (a ++ b)) both.0 (lies_behind (k + x.length) a b both.1 (ap (λ (j : ℕ). lies_in_order j b) e ∙ l))
+    and_make ((x.first.0 == k) && has_cells x) (lies_in_order (k + x.length) (a ++ b)) both.0
+    (lies_behind (k + x.length) a b both.1 (ap (λ (j : ℕ). lies_in_order j b) e ∙ l))
 
 locals_join : (a b : List VarInfo) → list_all is_local_variable a ≡ true → list_all is_local_variable b ≡ true → list_all is_local_variable (a ++ b) ≡ true
 locals_join [] b h l = l
@@ -90,7 +98,8 @@ locals_behind : (a b : List VarInfo) → globals_first a ≡ true → list_all i
 locals_behind [] b h l = locals_first b l
 locals_behind (x ∷ a) b h l = by (is_global_scope x.scope) h (λ g. locals_behind a b g l)
   where
-    by : (g : Bool) → (if g then globals_first a else list_all is_local_variable a) ≡ true → (globals_first a ≡ true → globals_first (a ++ b) ≡ true) → (if g then globals_first (a ++ b) else list_all is_local_variable (a ++ b)) ≡ true
+    by : (g : Bool) → (if g then globals_first a else list_all is_local_variable a) ≡ true → (globals_first a ≡ true → globals_first (a ++ b) ≡ true) →
+        (if g then globals_first (a ++ b) else list_all is_local_variable (a ++ b)) ≡ true
     by true h go = go h
     by false h go = locals_join a b h l
 
@@ -113,9 +122,11 @@ module _ (p : Program) (checked : IsChecked p) where
   vars_are = begins_as files (expand p).vars (expanded_files p checked)
 
   locals_from : LocalsFrom (global_count p) others
-  locals_from j info at = by (expanded_place p checked (length files + j) info (ap (λ (vs : List VarInfo). slice_get vs (length files + j)) vars_are ∙ get_behind files others j ∙ at))
+  locals_from j info at = by (expanded_place p checked (length files + j) info (ap (λ (vs : List VarInfo). slice_get vs (length files + j)) vars_are
+      ∙ get_behind files others j ∙ at))
     where
-      by : PlaceOf (file_count p) (global_count p) (length files + j) info → (info.first.0 ≡ global_count p + j) × ((info.length ≡ 1) × (is_global_scope info.scope ≡ false))
+      by : PlaceOf (file_count p) (global_count p) (length files + j) info → (info.first.0 ≡ global_count p + j)
+          × ((info.length ≡ 1) × (is_global_scope info.scope ≡ false))
       by (file less global within some) = absurd (omega (arith, less))
       by (own behind scope first single) = let e : info.first.0 ≡ global_count p + j = omega (arith, first) in (e, (single, scope))
 

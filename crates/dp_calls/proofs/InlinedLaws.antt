@@ -14,7 +14,8 @@ use Rattle.dp_calls.proofs.PlainLaws.{regions_in_text_order}
 use Rattle.dp_calls.proofs.RegionTableLaws.{regions_in_table}
 use Rattle.dp_calls.proofs.RoleLaws.{roles_as_in_text}
 
-pub expanded_is_inlined : (p : Program) → IsChecked p → length (expand p).sites ≤ 8192 → list_all is_small_region (expand p).regions ≡ true → IsInlined (expand p)
+pub expanded_is_inlined : (p : Program) → IsChecked p → length (expand p).sites ≤ 8192 → list_all is_small_region (expand p).regions ≡ true →
+    IsInlined (expand p)
 expanded_is_inlined p checked few few_each = record {
   globals = (expanded_in_order p checked).1;
   cells = (expanded_in_order p checked).0;

@@ -22,8 +22,10 @@ module _ (p : Program) where
   kept_declared true r x names t = refl
   kept_declared false r x names t = (grows_local p r x t).files
 
-  kept_bound : (r line : ℕ) (caller : List Renamed) (params : List VarId) (args : List Expr) (names : List Renamed) (t : Tables) → Kept t (bindings p r line caller params args names t)
-  kept_bound r line caller (x ∷ params) (e ∷ args) names t = kept_bound r line caller params args _ _ ∙ (grows_local p r x.0 (with_site (record { line = line; kind = kind.Assign; region = r }) t)).files
+  kept_bound : (r line : ℕ) (caller : List Renamed) (params : List VarId) (args : List Expr) (names : List Renamed) (t : Tables) →
+      Kept t (bindings p r line caller params args names t)
+  kept_bound r line caller (x ∷ params) (e ∷ args) names t =
+      kept_bound r line caller params args _ _ ∙ (grows_local p r x.0 (with_site (record { line = line; kind = kind.Assign; region = r }) t)).files
   kept_bound r line caller _ _ names t = refl
 
   module _ (calls : Calls) (kept_called : (f r : ℕ) (names : List Renamed) (t : Tables) → Kept t (calls f r names t)) where

@@ -1,5 +1,6 @@
 -- Where the variables of a checked program lie.
-use Rattle.std.proofs.Common.{◌≡◌, refl, sym, ap, ◌∙◌, subst, ℕ, zero, suc, ◌+◌, ◌-◌, ◌<◌, ◌≤◌, ◌==◌, Bool, true, false, not, ◌&&◌, ◌||◌, if◌then◌else◌, List, [], ◌∷◌, ◌++◌, pos, length, length-append, replicate, Some, slice_get, nat_lt, arith, ltb-true, eqb-true}
+use Rattle.std.proofs.Common.{◌≡◌, refl, sym, ap, ◌∙◌, subst, ℕ, zero, suc, ◌+◌, ◌-◌, ◌<◌, ◌≤◌, ◌==◌, Bool, true, false, not, ◌&&◌, ◌||◌, if◌then◌else◌, List}
+use Rattle.std.proofs.Common.{[], ◌∷◌, ◌++◌, pos, length, length-append, replicate, Some, slice_get, nat_lt, arith, ltb-true, eqb-true}
 use Rattle.std.specs.List.{list_all}
 use Rattle.std.proofs.lemmas.List.{length-replicate}
 use Rattle.std.proofs.lemmas.Option.{same_Some}
@@ -8,7 +9,7 @@ use Rattle.dp_tree.specs.declared.Program.{Program}
 use Rattle.dp_tree.specs.Globals.{is_global_scope, globals_in}
 use Rattle.dp_tree.specs.Layout.{has_cells, lies_in_order, is_local_variable, globals_first}
 use Rattle.dp_tree.specs.Trace.{start_cells}
-use Rattle.dp_calls.specs.Frame.{global_count, fresh}
+use Rattle.dp_calls.specs.Frame.{global_count, fresh_frame}
 use Rattle.dp_tree.proofs.Heads.{and_true, and_make}
 use Rattle.dp_calls.proofs.Relation.{PlaceOf, file, own, file_count}
 use Rattle.std.proofs.lemmas.Bool.{not-true}
@@ -56,7 +57,8 @@ lying k x xs h =
     }
 
 -- locals lie one by one
-local_lies : (k : ℕ) (xs : List VarInfo) → list_all is_local_variable xs ≡ true → lies_in_order k xs ≡ true → (n : ℕ) (info : VarInfo) → slice_get xs n ≡ Some info → PlaceOf 0 k n info
+local_lies : (k : ℕ) (xs : List VarInfo) → list_all is_local_variable xs ≡ true → lies_in_order k xs ≡ true → (n : ℕ) (info : VarInfo) →
+    slice_get xs n ≡ Some info → PlaceOf 0 k n info
 local_lies k [] locals lies n info at = absurd (cc at)
 local_lies k (x ∷ xs) locals lies n info at = by n at (λ m there. local_lies (k + x.length) xs both.1 l.rest m info there)
   where
@@ -77,7 +79,8 @@ local_lies k (x ∷ xs) locals lies n info at = by n at (λ m there. local_lies 
     next n (own behind scope first single) = own (omega arith) scope (omega (arith, first, one)) single
 
     by : (n : ℕ) → slice_get (x ∷ xs) n ≡ Some info → ((m : ℕ) → slice_get xs m ≡ Some info → PlaceOf 0 (k + x.length) m info) → PlaceOf 0 k n info
-    by zero at behind = let same : x ≡ info = same_Some x info at in subst (λ (v : VarInfo). PlaceOf 0 k 0 v) same (own (omega arith) no (omega (arith, l.first)) one)
+    by zero at behind = let same : x ≡ info = same_Some x info at in
+        subst (λ (v : VarInfo). PlaceOf 0 k 0 v) same (own (omega arith) no (omega (arith, l.first)) one)
     by (suc n) at behind = next n (behind n at)
 
 -- the place of variable n among some from cell k on, where these are the file-scope ones
@@ -89,28 +92,33 @@ abbrev PlacesAmong : List VarInfo → ℕ → List VarInfo → VarInfo → Type 
 PlacesAmong files k xs info = (n : ℕ) → slice_get xs n ≡ Some info → PlaceAmong files k n info
 
 -- each variable's place
-lies_from : (k : ℕ) (xs : List VarInfo) → globals_first xs ≡ true → lies_in_order k xs ≡ true → (n : ℕ) (info : VarInfo) → slice_get xs n ≡ Some info → PlaceAmong (globals_in xs) k n info
+lies_from : (k : ℕ) (xs : List VarInfo) → globals_first xs ≡ true → lies_in_order k xs ≡ true → (n : ℕ) (info : VarInfo) → slice_get xs n ≡ Some info →
+    PlaceAmong (globals_in xs) k n info
 lies_from k [] first lies n info at = absurd (cc at)
-lies_from k (x ∷ xs) first lies n info at = by (is_global_scope x.scope) refl (λ e m there. lies_from (k + x.length) xs (first_rest x xs first e) l.rest m info there)
+lies_from k (x ∷ xs) first lies n info at =
+    by (is_global_scope x.scope) refl (λ e m there. lies_from (k + x.length) xs (first_rest x xs first e) l.rest m info there)
   where
     l : Lying k x xs
     l = lying k x xs lies
 
     long : length (replicate x.length x.start ++ start_cells (globals_in xs)) ≡ x.length + length (start_cells (globals_in xs))
-    long = length-append (replicate x.length x.start) (start_cells (globals_in xs)) ∙ ap (λ (m : ℕ). m + length (start_cells (globals_in xs))) (length-replicate x.length x.start)
+    long = length-append (replicate x.length x.start) (start_cells (globals_in xs)) ∙ ap (λ (m : ℕ). m + length (start_cells (globals_in xs)))
+        (length-replicate x.length x.start)
 
     next : (n : ℕ) → PlaceAmong (globals_in xs) (k + x.length) n info → PlaceAmong (x ∷ globals_in xs) k (suc n) info
     next n (file less global within some) = file (omega (arith, less)) global (omega (arith, within, long)) some
     next n (own behind scope cell one) = own (omega (arith, behind)) scope (omega (arith, cell, long)) one
 
-    at_file : (is_global_scope x.scope ≡ true → PlacesAmong (globals_in xs) (k + x.length) xs info) → is_global_scope x.scope ≡ true → PlacesAmong (x ∷ globals_in xs) k (x ∷ xs) info
+    at_file : (is_global_scope x.scope ≡ true → PlacesAmong (globals_in xs) (k + x.length) xs info) → is_global_scope x.scope ≡ true →
+        PlacesAmong (x ∷ globals_in xs) k (x ∷ xs) info
     at_file behind e zero at =
         let same : x ≡ info = same_Some x info at in
         subst (λ (v : VarInfo). PlaceAmong (x ∷ globals_in xs) k 0 v) same
         (file (omega arith) e (omega (arith, l.first, long)) l.some)
     at_file behind e (suc n) at = next n (behind e n at)
 
-    by : (t : Bool) → is_global_scope x.scope ≡ t → (is_global_scope x.scope ≡ true → PlacesAmong (globals_in xs) (k + x.length) xs info) → PlaceAmong (globals_in (x ∷ xs)) k n info
+    by : (t : Bool) → is_global_scope x.scope ≡ t → (is_global_scope x.scope ≡ true → PlacesAmong (globals_in xs) (k + x.length) xs info) →
+        PlaceAmong (globals_in (x ∷ xs)) k n info
     by true e behind = subst (λ (files : List VarInfo). PlaceAmong files k n info) (sym (files_some x xs e)) (at_file behind e n at)
     by false e behind =
         let others = locals_rest x xs first e in let none : globals_in (x ∷ xs) ≡ [] = files_none x xs e ∙ no_files xs others in
@@ -124,11 +132,13 @@ files_before : (xs : List VarInfo) → globals_first xs ≡ true → (n : ℕ) �
 files_before [] first n less = refl
 files_before (x ∷ xs) first n less = by (is_global_scope x.scope) refl (λ e m below. files_before xs (first_rest x xs first e) m below)
   where
-    at_file : ((m : ℕ) → m < length (globals_in xs) → slice_get (globals_in xs) m ≡ slice_get xs m) → (n : ℕ) → n < suc (length (globals_in xs)) → slice_get (x ∷ globals_in xs) n ≡ slice_get (x ∷ xs) n
+    at_file : ((m : ℕ) → m < length (globals_in xs) → slice_get (globals_in xs) m ≡ slice_get xs m) → (n : ℕ) → n < suc (length (globals_in xs)) →
+        slice_get (x ∷ globals_in xs) n ≡ slice_get (x ∷ xs) n
     at_file behind zero less = refl
     at_file behind (suc n) less = let below : n < length (globals_in xs) = omega (arith, less) in behind n below
 
-    by : (t : Bool) → is_global_scope x.scope ≡ t → (is_global_scope x.scope ≡ true → (m : ℕ) → m < length (globals_in xs) → slice_get (globals_in xs) m ≡ slice_get xs m) → slice_get (globals_in (x ∷ xs)) n ≡ slice_get (x ∷ xs) n
+    by : (t : Bool) → is_global_scope x.scope ≡ t → (is_global_scope x.scope ≡ true → (m : ℕ) → m < length (globals_in xs) →
+        slice_get (globals_in xs) m ≡ slice_get xs m) → slice_get (globals_in (x ∷ xs)) n ≡ slice_get (x ∷ xs) n
     by true e behind =
         let long : length (globals_in (x ∷ xs)) ≡ suc (length (globals_in xs)) = ap (λ (gs : List VarInfo). length gs) (files_some x xs e) in
         ap (λ (gs : List VarInfo). slice_get gs n) (files_some x xs e) ∙ at_file (behind e) n (omega (arith, less, long))
@@ -154,16 +164,19 @@ counted k (x ∷ xs) lies = by (is_global_scope x.scope) refl (counted (k + x.le
     by : (t : Bool) → is_global_scope x.scope ≡ t → Counted xs → Counted (x ∷ xs)
     by true e rest =
         let files : length (globals_in (x ∷ xs)) ≡ suc (length (globals_in xs)) = ap (λ (gs : List VarInfo). length gs) (files_some x xs e) in
-        let starts : length (start_cells (globals_in (x ∷ xs))) ≡ x.length + length (start_cells (globals_in xs)) = ap (λ (gs : List VarInfo). length (start_cells gs)) (files_some x xs e) ∙ long (globals_in xs) in
+        let starts : length (start_cells (globals_in (x ∷ xs))) ≡ x.length + length (start_cells (globals_in xs)) = ap
+        (λ (gs : List VarInfo). length (start_cells gs)) (files_some x xs e) ∙ long (globals_in xs) in
         let all = long xs in
         record { cells = omega (arith, files, starts, all, rest.cells); fewer = omega (arith, files, rest.fewer) }
     by false e rest =
         let files : length (globals_in (x ∷ xs)) ≡ length (globals_in xs) = ap (λ (gs : List VarInfo). length gs) (files_none x xs e) in
-        let starts : length (start_cells (globals_in (x ∷ xs))) ≡ length (start_cells (globals_in xs)) = ap (λ (gs : List VarInfo). length (start_cells gs)) (files_none x xs e) in
+        let starts : length (start_cells (globals_in (x ∷ xs))) ≡ length (start_cells (globals_in xs)) = ap (λ (gs : List VarInfo). length (start_cells gs))
+        (files_none x xs e) in
         let all = long xs in let one = l.one e in
         record { cells = omega (arith, files, starts, all, one, rest.cells); fewer = omega (arith, files, rest.fewer) }
 
-files_if : (t : Bool) (x : VarInfo) (xs : List VarInfo) → is_global_scope x.scope ≡ t → globals_in xs ≡ xs → globals_in (if t then x ∷ xs else xs) ≡ (if t then x ∷ xs else xs)
+files_if : (t : Bool) (x : VarInfo) (xs : List VarInfo) → is_global_scope x.scope ≡ t → globals_in xs ≡ xs →
+    globals_in (if t then x ∷ xs else xs) ≡ (if t then x ∷ xs else xs)
 files_if true x xs e same = files_some x xs e ∙ ap (λ (ys : List VarInfo). x ∷ ys) same
 files_if false x xs e same = same
 
@@ -184,8 +197,9 @@ module _ (p : Program) (first : globals_first p.vars ≡ true) (lies : lies_in_o
   pub files_within : file_count p ≤ length p.vars
   files_within = (counted 0 p.vars lies).fewer
 
-  pub locals_long : length (fresh p) + file_count p ≡ length p.vars
+  pub locals_long : length (fresh_frame p) + file_count p ≡ length p.vars
   locals_long =
       let c = counted 0 p.vars lies in
-      let long : length (fresh p) ≡ length (start_cells p.vars) - global_count p = length-replicate (length (start_cells p.vars) - global_count p) (pos 0) in
+      let long : length (fresh_frame p) ≡ length (start_cells p.vars) - global_count p = length-replicate
+      (length (start_cells p.vars) - global_count p) (pos 0) in
       omega (arith, long, c.cells, c.fewer)

@@ -1,5 +1,6 @@
 -- The names of a call while its text is expanded: each new one stands for the next variable.
-use Rattle.std.proofs.Common.{◌≡◌, ◌⊎◌, inl, inr, refl, sym, ap, ◌∙◌, subst, ℕ, ◌<◌, ◌≤◌, ◌==◌, Bool, true, false, if◌then◌else◌, List, [], ◌∷◌, length, Option, Some, None, slice_get, arith, eqb-true, eq-eqb}
+use Rattle.std.proofs.Common.{◌≡◌, ◌⊎◌, inl, inr, refl, sym, ap, ◌∙◌, subst, ℕ, ◌<◌, ◌≤◌, ◌==◌, Bool, true, false, if◌then◌else◌, List, [], ◌∷◌, length, Option}
+use Rattle.std.proofs.Common.{Some, None, slice_get, arith, eqb-true, eq-eqb}
 use Rattle.std.proofs.lemmas.Option.{same_Some, slice_get_within}
 use Rattle.dp_base.specs.declared.VarId.{VarId}
 use Rattle.dp_room.proofs.ListLemmas.{at_index}
@@ -15,7 +16,8 @@ use Rattle.dp_calls.proofs.Tabled.{Grows, moved, local_vars, local_length, grows
 abbrev pub names_as : ℕ → ℕ → Renamed
 names_as x y = record { source = x; target = y }
 
-named_by : (a b : ℕ) (names : List Renamed) (x y : ℕ) (t : Bool) → (a == x) ≡ t → (if t then Some b else named_in names x) ≡ Some y → ((a ≡ x) × (b ≡ y)) ⊎ (named_in names x ≡ Some y)
+named_by : (a b : ℕ) (names : List Renamed) (x y : ℕ) (t : Bool) → (a == x) ≡ t → (if t then Some b else named_in names x) ≡ Some y → ((a ≡ x) × (b ≡ y))
+    ⊎ (named_in names x ≡ Some y)
 named_by a b names x y true is e = inl (eqb-true a x is, same_Some b y e)
 named_by a b names x y false is e = inr e
 
@@ -25,7 +27,8 @@ named_cons a b names x y e = named_by a b names x y (a == x) refl e
 pub named_new : (a b : ℕ) (names : List Renamed) → named_in (names_as a b ∷ names) a ≡ Some b
 named_new a b names = ap (λ (t : Bool). if t then Some b else named_in names a) (eq-eqb a a refl)
 
-old_by : (a b : ℕ) (names : List Renamed) (x y : ℕ) (t : Bool) → (a == x) ≡ t → named_in names a ≡ None → named_in names x ≡ Some y → (if t then Some b else named_in names x) ≡ Some y
+old_by : (a b : ℕ) (names : List Renamed) (x y : ℕ) (t : Bool) → (a == x) ≡ t → named_in names a ≡ None → named_in names x ≡ Some y →
+    (if t then Some b else named_in names x) ≡ Some y
 old_by a b names x y true is free e =
     let clash : ◌≡◌ {A = Option ℕ} None (Some y) = sym free ∙ ap (named_in names) (eqb-true a x is) ∙ e in absurd (cc clash)
 old_by a b names x y false is free e = e
@@ -83,10 +86,19 @@ module _ (p : Program) (linked : Option VarInfo → Option VarInfo → Type 0) (
 
   -- no name yet
   pub names_none : (t : Tables) → low ≤ length t.vars → NamesOk [] t
-  names_none t begun = record { source = λ x y at. absurd (cc at); target = λ x y at. absurd (cc at); apart = λ x z y at there. absurd (cc at); link = λ x y at. absurd (cc at); begun = begun }
+  names_none t begun =
+      record {
+        source = λ x y at. absurd (cc at);
+        target = λ x y at. absurd (cc at);
+        apart = λ x z y at there. absurd (cc at);
+        link = λ x y at. absurd (cc
+            at);
+        begun = begun;
+      }
 
   -- one more
-  pub names_local : (r x : ℕ) (names : List Renamed) (t : Tables) (info : VarInfo) → slice_get p.vars x ≡ Some info → file_count p ≤ x → linked (Some info) (Some (moved info t.cells r)) → named_in names x ≡ None →
+  pub names_local : (r x : ℕ) (names : List Renamed) (t : Tables) (info : VarInfo) → slice_get p.vars x ≡ Some info → file_count p ≤ x →
+      linked (Some info) (Some (moved info t.cells r)) → named_in names x ≡ None →
       NamesOk names t → NamesOk (names_as x (length t.vars) ∷ names) (with_local p r x t)
   names_local r x names t info at behind link free ok =
       let long = local_length p r x t info at in let old = names_grow (grows_local p r x t) ok in
@@ -114,7 +126,8 @@ module _ (p : Program) (linked : Option VarInfo → Option VarInfo → Type 0) (
         link = λ a y named. elim (named_cons x (length t.vars) names a y named) [
           | inl both ↦ subst (λ (n : ℕ). linked (slice_get p.vars n) (slice_get (with_local p r x t).vars y)) both.0
               (subst (λ (n : ℕ). linked (slice_get p.vars x) (slice_get (with_local p r x t).vars n)) both.1
-              (subst (λ (o : Option VarInfo). linked o (slice_get (with_local p r x t).vars (length t.vars))) (sym at) (subst (λ (o : Option VarInfo). linked (Some info) o) (sym entry) link)))
+              (subst (λ (o : Option VarInfo). linked o (slice_get (with_local p r x t).vars (length t.vars))) (sym at)
+              (subst (λ (o : Option VarInfo). linked (Some info) o) (sym entry) link)))
           | inr before ↦ old.link a y before
         ];
         begun = old.begun;

@@ -1,5 +1,6 @@
 -- The bindings of a call's arguments in the expanded text.
-use Rattle.std.proofs.Common.{◌≡◌, inl, inr, refl, sym, ap, ap₂, ◌∙◌, subst, ℕ, zero, suc, ◌≤◌, Bool, true, false, not, ◌&&◌, List, [], ◌∷◌, length, Option, Some, None, slice_get, arith, eq-eqb}
+use Rattle.std.proofs.Common.{◌≡◌, inl, inr, refl, sym, ap, ap₂, ◌∙◌, subst, ℕ, zero, suc, ◌≤◌, Bool, true, false, not, ◌&&◌, List, [], ◌∷◌, length, Option}
+use Rattle.std.proofs.Common.{Some, None, slice_get, arith, eq-eqb}
 use Rattle.std.specs.List.{list_all}
 use Rattle.dp_base.specs.declared.SiteId.{SiteId}
 use Rattle.dp_base.specs.declared.VarId.{VarId}
@@ -19,7 +20,7 @@ use Rattle.dp_tree.specs.Scoping.{sees, knows, is_scope_in, is_declared_in, para
 use Rattle.dp_calls.specs.Frame.{global_count}
 use Rattle.dp_calls.specs.Renaming.{Renamed, named_in, target_or, target_of, renamed}
 use Rattle.dp_calls.specs.AtHome.{is_home, is_home_at}
-use Rattle.dp_calls.specs.Tables.{Tables, scope_in, with_local, with_site, next_site}
+use Rattle.dp_calls.specs.Tables.{Tables, scope_in, with_local, with_site, new_site}
 use Rattle.dp_calls.specs.Expand.{bindings}
 use Rattle.dp_tree.proofs.Heads.{and_true}
 use Rattle.dp_calls.proofs.Relation.{Env, PlaceOf, file, own, file_count, Binds, bound, binds}
@@ -43,7 +44,8 @@ module _ (p : Program) (places : (x : ℕ) (info : VarInfo) → slice_get p.vars
     pub one : info.length ≡ 1
     pub scope : is_scope_in r info.scope ≡ true
 
-  local_place : (r x : ℕ) (info : VarInfo) → slice_get p.vars x ≡ Some info → is_scope_in r info.scope ≡ true → PlaceOf (file_count p) (global_count p) x info → Local r x
+  local_place : (r x : ℕ) (info : VarInfo) → slice_get p.vars x ≡ Some info → is_scope_in r info.scope ≡ true →
+      PlaceOf (file_count p) (global_count p) x info → Local r x
   local_place r x info at is (file _ global _ _) =
       let clash : true ≡ false = sym global ∙ scope_local r info.scope is in absurd (cc clash)
   local_place r x info at is (own behind _ _ one) = record { info = info; at = at; behind = behind; one = one; scope = is }
@@ -82,7 +84,8 @@ module _ (p q : Program) (places : (x : ℕ) (info : VarInfo) → slice_get p.va
   abbrev info_of : SiteInfo
   info_of = record { line = line; kind = kind.Assign; region = r }
 
-  free_by : (visible : List ℕ) (names : List Renamed) (x : VarId) (o : Option ℕ) → named_in names x.0 ≡ o → ((w : VarId) (y : ℕ) → named_in names w.0 ≡ Some y → sees visible w ≡ true) → not (sees visible x) ≡ true → named_in names x.0 ≡ None
+  free_by : (visible : List ℕ) (names : List Renamed) (x : VarId) (o : Option ℕ) → named_in names x.0 ≡ o → ((w : VarId) (y : ℕ) → named_in names w.0 ≡ Some y →
+      sees visible w ≡ true) → not (sees visible x) ≡ true → named_in names x.0 ≡ None
   free_by visible names x None at only new = at
   free_by visible names x (Some y) at only new = not_true (sees visible x) new (only x y at)
 
@@ -90,7 +93,8 @@ module _ (p q : Program) (places : (x : ℕ) (info : VarInfo) → slice_get p.va
   one_passed : (x : VarId) (a : Expr) (params : List VarId) (args : List Expr) (visible : List ℕ) (names : List Renamed) (t : Tables) (info : VarInfo) →
       slice_get p.vars x.0 ≡ Some info → knows known a ≡ true →
       NamesOk p (Homely r) low names t → Lies p t → named_in names x.0 ≡ None → Local p places 0 x.0 →
-      Made p q (Homely r) low calls (names_as x.0 (length t.vars) ∷ names) (with_local p r x.0 (with_site info_of t)) (seen_behind_params (x.0 ∷ visible) params)
+      Made p q (Homely r) low calls (names_as x.0 (length t.vars) ∷ names) (with_local p r x.0 (with_site info_of t))
+      (seen_behind_params (x.0 ∷ visible) params)
       (bindings p r line caller params args (names_as x.0 (length t.vars) ∷ names) (with_local p r x.0 (with_site info_of t)))
       (Passes params args (bindings p r line caller params args (names_as x.0 (length t.vars) ∷ names) (with_local p r x.0 (with_site info_of t))).code) →
       Made p q (Homely r) low calls names t (seen_behind_params visible (x ∷ params)) (bindings p r line caller (x ∷ params) (a ∷ args) names t)
@@ -107,19 +111,22 @@ module _ (p q : Program) (places : (x : ℕ) (info : VarInfo) → slice_get p.va
         seen = made.seen;
         becomes = λ g closes e final.
             (let here = closes_before p q low calls g made.grows made.steps closes in
-            let site : SiteId = next_site t in
+            let site : SiteId = new_site t in
             let first : target_of now x ≡ record { 0 = length t.vars } = ap (λ (o : Option ℕ). target_or o x.0) (named_new x.0 (length t.vars) names) in
             let named : named_in g.names x.0 ≡ Some (length t.vars) = here.ends.stable x.0 (length t.vars) (named_new x.0 (length t.vars) names) in
             let last : target_of g.names x ≡ record { 0 = length t.vars } = ap (λ (o : Option ℕ). target_or o x.0) named in
             let head : out-Stmt (stmt.Assign site (target_of now x) (renamed caller a)) ≡ Assign site (target_of g.names x) (renamed e.names a) =
             outs-Assign site (target_of now x) (renamed caller a) ∙ ap₂ (λ (y : VarId) (v : Expr). Assign site y v) (first ∙ sym last) (final a is_known) in
-            binds head (binding_line p q info_of t (grows_on (grows_local p r x.0 (with_site info_of t)) here.into)) is_known named (made.becomes g closes e final));
+            binds head (binding_line p q info_of t (grows_on (grows_local p r x.0 (with_site info_of t)) here.into)) is_known named
+            (made.becomes g closes e final));
       }
 
   pub passed : (params : List VarId) (args : List Expr) (visible : List ℕ) (names : List Renamed) (t : Tables) →
-      params_in_scope p visible params ≡ true → length args ≡ length params → list_all (knows known) args ≡ true → NamesOk p (Homely r) low names t → Lies p t → Seen p visible names →
+      params_in_scope p visible params ≡ true → length args ≡ length params → list_all (knows known) args ≡ true → NamesOk p (Homely r) low names t → Lies p t →
+      Seen p visible names →
       ((w : VarId) (y : ℕ) → named_in names w.0 ≡ Some y → sees visible w ≡ true) →
-      Made p q (Homely r) low calls names t (seen_behind_params visible params) (bindings p r line caller params args names t) (Passes params args (bindings p r line caller params args names t).code)
+      Made p q (Homely r) low calls names t (seen_behind_params visible params) (bindings p r line caller params args names t)
+      (Passes params args (bindings p r line caller params args names t).code)
   passed [] [] visible names t scoped long known_all ok lies seen only =
       record { grows = grows_not t; lies = lies; named = ok; steps = steps_not names (length t.vars); seen = seen; becomes = λ g closes e final. bound }
   passed (x ∷ params) (a ∷ args) visible names t scoped long known_all ok lies seen only =
@@ -131,7 +138,8 @@ module _ (p q : Program) (places : (x : ℕ) (info : VarInfo) → slice_get p.va
       let stepped : Steps names (length t.vars) now = steps_one names x.0 (length t.vars) free in
       let less : length args ≡ length params = omega (arith, long) in
       let sited : NamesOk p (Homely r) low names (with_site info_of t) = names_grow p (Homely r) low (grows_site info_of t) ok in
-      let level : Lies p (with_site info_of t) = record { place = lies.place; cells = lies.cells; above = lies.above; own = lies.own; start = lies.start; room = lies.room } in
+      let level : Lies p (with_site info_of t) =
+      record { place = lies.place; cells = lies.cells; above = lies.above; own = lies.own; start = lies.start; room = lies.room } in
       one_passed x a params args visible names t declared.info declared.at both.0 ok lies free declared
       (passed params args (x.0 ∷ visible) now (with_local p r x.0 (with_site info_of t)) outer.1 less both.1
       (names_local p (Homely r) low r x.0 names (with_site info_of t) declared.info declared.at declared.behind (home_moved r declared.info t.cells) free sited)

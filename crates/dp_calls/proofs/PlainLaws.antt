@@ -14,7 +14,7 @@ use Rattle.dp_tree.specs.Checked.{IsChecked, is_plain_function}
 use Rattle.dp_tree.proofs.Heads.{opened_statement, and_true, and_make}
 use Rattle.dp_tree.proofs.Inner.{hidden_inner, hidden_plain, inner_hidden, inner_plain, inner_join, plain_hidden}
 use Rattle.dp_calls.specs.Renaming.{Renamed, named_in, renamed}
-use Rattle.dp_calls.specs.Tables.{Tables, first_tables, with_source_site, next_site}
+use Rattle.dp_calls.specs.Tables.{Tables, first_tables, with_source_site, new_site}
 use Rattle.dp_calls.specs.Expand.{Piece, Calls, expand, bindings, declared_by, is_known, expand_one, expand_rows, expand_list, calls_within}
 use Rattle.dp_tree.proofs.PlainLists.{plain_front}
 
@@ -54,7 +54,8 @@ module _ (p : Program) where
   declared_regions true r x names t = refl
   declared_regions false r x names t = refl
 
-  plain_bindings : (r line : ℕ) (caller : List Renamed) (params : List VarId) (args : List Expr) (names : List Renamed) (t : Tables) → Plain t (bindings p r line caller params args names t)
+  plain_bindings : (r line : ℕ) (caller : List Renamed) (params : List VarId) (args : List Expr) (names : List Renamed) (t : Tables) →
+      Plain t (bindings p r line caller params args names t)
   plain_bindings r line caller (x ∷ params) (e ∷ args) names t = plain_bindings r line caller params args _ _
   plain_bindings r line caller _ _ names t = (refl, refl)
 
@@ -65,20 +66,25 @@ module _ (p : Program) where
       plain_one r (stmt.If' site cond _ a _ b) names t h =
           let both = and_true (is_plain_in a) (is_plain_in b) h in let left = expand_rows p calls r a names (with_source_site p r site t) in
           let right = expand_rows p calls r b left.names left.tables in let l = plain_rows r a names (with_source_site p r site t) both.0 in
-          let m = plain_rows r b left.names left.tables both.1 in
-          (plain_alone (stmt.If (next_site t) (renamed names cond) left.code right.code) (plain-If (next_site t) (renamed names cond) left.code right.code l.0 m.0), m.1 ∙ l.1)
+          let m = plain_rows r b left.names left.tables both.1 in (
+            plain_alone (stmt.If (new_site t) (renamed names cond) left.code right.code) (plain-If (new_site t) (renamed names cond) left.code right.code
+                l.0 m.0),
+            m.1 ∙ l.1,
+          )
       plain_one r (stmt.While' site cond _ a) names t h =
           let body = expand_rows p calls r a names (with_source_site p r site t) in
           let l = plain_rows r a names (with_source_site p r site t) h in
-          (plain_alone (stmt.While (next_site t) (renamed names cond) body.code) (plain-While (next_site t) (renamed names cond) body.code l.0), l.1)
+          (plain_alone (stmt.While (new_site t) (renamed names cond) body.code) (plain-While (new_site t) (renamed names cond) body.code l.0), l.1)
       plain_one r (stmt.Region' q site cond _ a) names t h = absurd (cc)
       plain_one r (stmt.Break site cond) names t h = absurd (cc)
       plain_one r (stmt.Call f line args) names t h =
           let bound = bindings p r line names (params_in (slice_get p.functions f)) args [] t in
-          plain_joined t bound (calls f r bound.names bound.tables) (plain_bindings r line names (params_in (slice_get p.functions f)) args [] t) (called f r bound.names bound.tables)
+          plain_joined t bound (calls f r bound.names bound.tables) (plain_bindings r line names (params_in (slice_get p.functions f)) args [] t)
+          (called f r bound.names bound.tables)
       plain_one r _ names t h = (refl, refl)
 
-      pub plain_rows : {n : _} (r : ℕ) (rows : Row_of-Stmt n) (names : List Renamed) (t : Tables) → is_plain_in rows ≡ true → Plain t (expand_rows p calls r rows names t)
+      pub plain_rows : {n : _} (r : ℕ) (rows : Row_of-Stmt n) (names : List Renamed) (t : Tables) → is_plain_in rows ≡ true →
+          Plain t (expand_rows p calls r rows names t)
       plain_rows r end_of-Stmt names t h = (refl, refl)
       plain_rows r (more_of-Stmt s rest) names t h =
           let both = and_true (is_plain s) (is_plain_in rest) h in let one = expand_one p calls r s names t in
@@ -90,7 +96,8 @@ module _ (p : Program) where
     inner_one r (stmt.Break site e) names t h = (refl, refl)
     inner_one r s names t h = let k = plain_one r s names t h in (inner_plain (expand_one p calls r s names t).code k.0, k.1)
 
-    pub inner_rows : {n : _} (r : ℕ) (rows : Row_of-Stmt n) (names : List Renamed) (t : Tables) → is_inner_in rows ≡ true → Inner t (expand_rows p calls r rows names t)
+    pub inner_rows : {n : _} (r : ℕ) (rows : Row_of-Stmt n) (names : List Renamed) (t : Tables) → is_inner_in rows ≡ true →
+        Inner t (expand_rows p calls r rows names t)
     inner_rows r end_of-Stmt names t h = (refl, refl)
     inner_rows r (more_of-Stmt s rest) names t h =
         let both = and_true (is_inner s) (is_inner_in rest) h in let one = expand_one p calls r s names t in
@@ -110,9 +117,11 @@ module _ (p : Program) where
   module _ (checked : IsChecked p) where
     pub plain_within : (depth f r : ℕ) (names : List Renamed) (t : Tables) → Plain t (calls_within p depth f r names t)
     plain_within zero f r names t = (refl, refl)
-    plain_within (suc depth) f r names t = plain_list (calls_within p depth) (plain_within depth) r (body_in (slice_get p.functions f)) names t (plain_body p.functions f checked.functions)
+    plain_within (suc depth) f r names t =
+        plain_list (calls_within p depth) (plain_within depth) r (body_in (slice_get p.functions f)) names t (plain_body p.functions f checked.functions)
 
-region_fits : (r q : ℕ) (site : SiteId) (cond : Expr) (a : List Stmt) → (q == r) ≡ true → list_all is_inner a ≡ true → top_fits r (stmt.Region q site cond a) ≡ true
+region_fits : (r q : ℕ) (site : SiteId) (cond : Expr) (a : List Stmt) → (q == r) ≡ true → list_all is_inner a ≡ true →
+    top_fits r (stmt.Region q site cond a) ≡ true
 unfolding opened_statement
 region_fits r q site cond a e h = and_make (q == r) (hidden_inner a) e (inner_hidden a ∙ h)
 
@@ -131,16 +140,17 @@ module _ (p : Program) (calls : Calls) (called : (f r : ℕ) (names : List Renam
       let one = expand_one p calls 0 s names t in let plain = plain_one p calls called 0 s names t h in
       plain_front r one.code (expand_list p calls 0 rest one.names one.tables).code plain.0 (go r one.names one.tables k)
 
-  regions_top : (s : Stmt) (rest : List Stmt) → Keeps rest → (r : ℕ) (names : List Renamed) (t : Tables) → top_fits r s ≡ true → regions_in_order (next_region r s) rest ≡ true
+  regions_top : (s : Stmt) (rest : List Stmt) → Keeps rest → (r : ℕ) (names : List Renamed) (t : Tables) → top_fits r s ≡ true →
+      regions_in_order (next_region r s) rest ≡ true
       → regions_in_order r (expand_list p calls 0 (s ∷ rest) names t).code ≡ true
   regions_top (stmt.Region' q site cond c a) rest go r names t h k =
       let both = and_true (q == r) (is_inner_in a) h in let body = expand_rows p calls q a names (with_source_site p q site t) in
       let inner = inner_rows p calls called q a names (with_source_site p q site t) both.1 in
       let one = expand_one p calls 0 (stmt.Region' q site cond c a) names t in
-      let s = stmt.Region q (next_site t) (renamed names cond) body.code in
+      let s = stmt.Region q (new_site t) (renamed names cond) body.code in
       let after = (expand_list p calls 0 rest one.names one.tables).code in
-      and_make (top_fits r s) (regions_in_order (next_region r s) after) (region_fits r q (next_site t) (renamed names cond) body.code both.0 inner.0)
-      (ap (λ n. regions_in_order n after) (region_next r q (next_site t) (renamed names cond) body.code) ∙ go (r + 1) one.names one.tables k)
+      and_make (top_fits r s) (regions_in_order (next_region r s) after) (region_fits r q (new_site t) (renamed names cond) body.code both.0 inner.0)
+      (ap (λ n. regions_in_order n after) (region_next r q (new_site t) (renamed names cond) body.code) ∙ go (r + 1) one.names one.tables k)
   regions_top (stmt.Break site cond) rest go r names t h k = absurd (cc)
   regions_top s rest go r names t h k = regions_plain s rest go r names t h k
 

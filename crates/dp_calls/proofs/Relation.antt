@@ -13,7 +13,7 @@ use Rattle.dp_tree.specs.Globals.{is_global_scope, globals_in}
 use Rattle.dp_tree.specs.Numbering.{is_inner}
 use Rattle.dp_tree.specs.Step.{line_of, is_local_of, clear_locals, behind_region, cleared_leaving}
 use Rattle.dp_tree.specs.Scoping.{sees, knows, global_numbers, seen_behind_params}
-use Rattle.dp_calls.specs.Frame.{global_count, fresh}
+use Rattle.dp_calls.specs.Frame.{global_count, fresh_frame}
 use Rattle.dp_calls.specs.Renaming.{Renamed, named_in, target_of, renamed}
 
 -- an expanded call: its variables lie between two numbers, its names, and the functions that it may call are the first ones
@@ -38,7 +38,7 @@ pub record Laid (p q : Program) : Type 0 where
   pub after : (y : ℕ) (info : VarInfo) → slice_get q.vars y ≡ Some info → PlaceOf (file_count p) (global_count p) y info
   pub same : (x : ℕ) → x < file_count p → slice_get q.vars x ≡ slice_get p.vars x
   pub there : file_count p ≤ length p.vars
-  pub locals : length (fresh p) + file_count p ≡ length p.vars
+  pub locals : length (fresh_frame p) + file_count p ≡ length p.vars
 
 -- the entry isn't that of a body local of the region
 abbrev pub is_quiet : ℕ → Option VarInfo → Bool
@@ -69,7 +69,8 @@ module _ (p q : Program) where
 
   -- the body locals of a region aren't visible where it stands
   abbrev pub Quiet : Env → List ℕ → ℕ → Type 0
-  Quiet e visible r = (x : VarId) (y : ℕ) → sees visible x ≡ true → named_in e.names x.0 ≡ Some y → (is_quiet r (slice_get p.vars x.0) ≡ false) × (is_quiet r (slice_get q.vars y) ≡ false)
+  Quiet e visible r = (x : VarId) (y : ℕ) → sees visible x ≡ true → named_in e.names x.0 ≡ Some y → (is_quiet r (slice_get p.vars x.0) ≡ false)
+      × (is_quiet r (slice_get q.vars y) ≡ false)
 
   -- each variable that is visible behind is visible before
   abbrev pub Within : List ℕ → List ℕ → Type 0
@@ -99,7 +100,8 @@ module _ (p q : Program) where
           out-Stmt s ≡ Assign site x v → out-Stmt t ≡ Assign here (target_of e.names x) (renamed e.names v) → line_of q here ≡ line_of p site →
           knows visible v ≡ true → Declares e visible x behind → Acts e visible behind s t
       stores : {e : Env} {visible : List ℕ} {s t : Stmt} {site here : SiteId} {x : VarId} {i v : Expr} →
-          out-Stmt s ≡ Store site x i v → out-Stmt t ≡ Store here (target_of e.names x) (renamed e.names i) (renamed e.names v) → line_of q here ≡ line_of p site →
+          out-Stmt s ≡ Store site x i v → out-Stmt t ≡ Store here (target_of e.names x) (renamed e.names i) (renamed e.names v) →
+          line_of q here ≡ line_of p site →
           knows visible i ≡ true → knows visible v ≡ true → sees visible x ≡ true → Acts e visible visible s t
       prints : {e : Env} {visible : List ℕ} {s t : Stmt} {site here : SiteId} {v : Expr} →
           out-Stmt s ≡ Print site v → out-Stmt t ≡ Print here (renamed e.names v) → line_of q here ≡ line_of p site →
@@ -137,7 +139,8 @@ module _ (p q : Program) where
     pub data Body : Env → List ℕ → List Stmt → List Stmt → Type 0 where
       finished : {e : Env} {visible : List ℕ} → Body e visible [] []
       onward : {e : Env} {visible behind : List ℕ} {s : Stmt} {rest first text code : List Stmt} →
-          Inside e visible behind s first → Body e behind rest text → list_all is_inner rest ≡ true → list_all is_inner text ≡ true → code ≡ first ++ text → Body e visible (s ∷ rest) code
+          Inside e visible behind s first → Body e behind rest text → list_all is_inner rest ≡ true → list_all is_inner text ≡ true → code ≡ first ++ text →
+          Body e visible (s ∷ rest) code
 
   -- A region is left from here: what is visible behind it is visible here, and its body locals alone are cleared. Only `main` has regions.
   pub record Leaving (e : Env) (visible outer : List ℕ) (r : ℕ) (rest text : List Stmt) : Type 0 where
@@ -153,8 +156,10 @@ module _ (p q : Program) where
     next : {e : Env} {visible behind : List ℕ} {s : Stmt} {rest first text code : List Stmt} →
         One e visible behind s first → Todo e behind rest text → code ≡ first ++ text → Todo e visible (s ∷ rest) code
     exit : {e : Env} {visible outer : List ℕ} {r : ℕ} {s t : Stmt} {rest text code : List Stmt} →
-        Tries e visible s t → Todo e visible rest text → Leaving e visible outer r rest text → Todo e outer (behind_region rest) (behind_region text) → code ≡ t ∷ text → Todo e visible (s ∷ rest) code
-    leave : {e : Env} {visible outer : List ℕ} {statements code : List Stmt} → Within outer visible → Todo e outer statements code → Todo e visible statements code
+        Tries e visible s t → Todo e visible rest text → Leaving e visible outer r rest text → Todo e outer (behind_region rest) (behind_region text) →
+        code ≡ t ∷ text → Todo e visible (s ∷ rest) code
+    leave : {e : Env} {visible outer : List ℕ} {statements code : List Stmt} → Within outer visible → Todo e outer statements code →
+        Todo e visible statements code
 
   -- a visible variable is a file-scope one, or has the value of the variable that stands for it
   pub data Held (e : Env) (locals cells : List ℤ) (x : ℕ) : Type 0 where

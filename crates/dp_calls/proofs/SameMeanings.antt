@@ -11,7 +11,7 @@ use Rattle.dp_tree.specs.Globals.{globals_in}
 use Rattle.dp_tree.specs.Scoping.{sees, global_numbers}
 use Rattle.dp_tree.specs.Step.{standing}
 use Rattle.dp_tree.specs.Trace.{start_cells, begin}
-use Rattle.dp_calls.specs.Frame.{global_count, fresh, new_frame, settled}
+use Rattle.dp_calls.specs.Frame.{global_count, fresh_frame, new_frame, frames_settled}
 use Rattle.dp_calls.specs.Frames.{start_state}
 use Rattle.dp_calls.specs.Tables.{first_tables}
 use Rattle.dp_calls.specs.Expand.{Piece, expand_list, calls_within, expand}
@@ -42,7 +42,8 @@ module _ (p : Program) (checked : IsChecked p) where
   pub first_lies : Lies p (first_tables p)
   first_lies = record {
     place = λ k info at.
-        (let less : k < file_count p = slice_get_within (globals_in p.vars) k info at in places k info (sym (file_before p checked.globals checked.cells k less) ∙ at));
+        (let less : k < file_count p = slice_get_within (globals_in p.vars) k info at in places k info (sym (file_before p checked.globals checked.cells k less)
+        ∙ at));
     cells = refl;
     above = omega arith;
     own = [];
@@ -55,7 +56,8 @@ module _ (p : Program) (checked : IsChecked p) where
 
   pub made : MainMade p (expand p) places there (text_of p checked) (global_numbers p) [] (first_tables p) p.main whole
   made =
-      main_made p (expand p) places there (text_of p checked) 1 p.main (global_numbers p) [] (first_tables p) (main_scoped p checked) checked.regions (main_listed p checked)
+      main_made p (expand p) places there (text_of p checked) 1 p.main (global_numbers p) [] (first_tables p) (main_scoped p checked) checked.regions
+      (main_listed p checked)
       (names_none p Linked (file_count p) (first_tables p) (omega arith), first_lies, (λ x at. inl (files_below x at)), (λ x at. inl (files_below x at)))
 
   abbrev pub main_env : Env
@@ -102,7 +104,7 @@ module _ (p : Program) (checked : IsChecked p) where
   suits = record {
     env = main_is_env;
     todo = block_todo p (expand p) laid block;
-    agree = file_agree p (expand p) laid main_env (fresh p) made.lies.own;
+    agree = file_agree p (expand p) laid main_env (fresh_frame p) made.lies.own;
     room = (laid.locals, made.lies.room);
     callee = refl;
   }
@@ -117,8 +119,10 @@ module _ (p : Program) (checked : IsChecked p) where
         own = s.own;
         whole = refl;
         cells = ap (λ (m : List ℤ). (standing (expand p) whole.code m).cells) made.lies.start
-            ∙ sym (ap (λ (xs : List Stmt). (standing (expand p) xs (start_cells (globals_in p.vars) ++ made.lies.own)).cells) same) ∙ s.stands (start_cells (globals_in p.vars)) refl;
-        sim = subst (λ (xs : List Stmt). Sim p (expand p) s.own (settled p (new_frame p p.main ∷ [])) xs) (same ∙ sym (standing_to_do (expand p) whole.code (start_cells (expand p).vars))) s.sim;
+            ∙ sym (ap (λ (xs : List Stmt). (standing (expand p) xs (start_cells (globals_in p.vars) ++ made.lies.own)).cells) same)
+            ∙ s.stands (start_cells (globals_in p.vars)) refl;
+        sim = subst (λ (xs : List Stmt). Sim p (expand p) s.own (frames_settled p (new_frame p p.main ∷ [])) xs) (same
+            ∙ sym (standing_to_do (expand p) whole.code (start_cells (expand p).vars))) s.sim;
       }
 
   pub same_meaning : SameMeaning p

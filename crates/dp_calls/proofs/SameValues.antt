@@ -1,5 +1,6 @@
 -- An expression has the same value under the names of a call, where its visible variables have.
-use Rattle.std.proofs.Common.{◌≡◌, ◌⊎◌, inl, inr, refl, sym, ap, ap₂, ◌∙◌, ℕ, zero, suc, ◌+◌, ◌<◌, ◌==◌, Bool, true, false, ◌||◌, if◌then◌else◌, List, ◌∷◌, ℤ, pos, negsuc, get_or, Result, Ok, Err, nat_lt, arith, eqb-true, eq-eqb, ltb-true}
+use Rattle.std.proofs.Common.{◌≡◌, ◌⊎◌, inl, inr, refl, sym, ap, ap₂, ◌∙◌, ℕ, zero, suc, ◌+◌, ◌<◌, ◌==◌, Bool, true, false, ◌||◌, if◌then◌else◌, List, ◌∷◌, ℤ}
+use Rattle.std.proofs.Common.{pos, negsuc, get_or, Result, Ok, Err, nat_lt, arith, eqb-true, eq-eqb, ltb-true}
 use Rattle.dp_base.specs.declared.FaultKind.{FaultKind}
 use Rattle.dp_base.specs.declared.VarId.{VarId}
 use Rattle.dp_base.specs.Arithmetic.{binary_result, unary_result}
@@ -10,7 +11,8 @@ use Rattle.dp_tree.specs.Eval.{eval, first_cell, cell_count, result_of, bind, ju
 use Rattle.dp_tree.specs.Numbering.{numbers_from}
 use Rattle.dp_tree.specs.Scoping.{sees, knows}
 use Rattle.dp_calls.specs.Renaming.{Renamed, target_of, renamed}
-use Rattle.dp_tree.proofs.EvalLemmas.{opened, word, element, and_also, or_also, result-Number, result-InputLen, result-Scalar, result-Input, result-Element, result-Unary, result-Binary, result-And, result-Or}
+use Rattle.dp_tree.proofs.EvalLemmas.{opened, word, element, and_also, or_also, result-Number, result-InputLen, result-Scalar, result-Input, result-Element}
+use Rattle.dp_tree.proofs.EvalLemmas.{result-Unary, result-Binary, result-And, result-Or}
 use Rattle.dp_tree.proofs.Heads.{and_true}
 use Rattle.dp_base.specs.declared.FaultKind.TheVariants.{Index}
 use Rattle.dp_base.specs.declared.UnOp.{UnOp}
@@ -89,7 +91,8 @@ module _ (p q : Program) (input a b : List ℤ) (names : List Renamed) (visible 
   same-Input e h = result-Input p input a e ∙ ap (λ (v : Result ℤ FaultKind). bind v (word input)) h ∙ sym (result-Input q input b (renamed names e))
 
   same-Unary : (op : UnOp) (e : Expr) → Same e → result_of (eval p input a (tree.Unary op e)) ≡ result_of (eval q input b (tree.Unary op (renamed names e)))
-  same-Unary op e h = result-Unary p input a op e ∙ ap (λ (v : Result ℤ FaultKind). bind v (unary_result op)) h ∙ sym (result-Unary q input b op (renamed names e))
+  same-Unary op e h = result-Unary p input a op e ∙ ap (λ (v : Result ℤ FaultKind). bind v (unary_result op)) h
+      ∙ sym (result-Unary q input b op (renamed names e))
 
   same-Binary : (op : BinOp) (c d : Expr) → Same c → Same d →
       result_of (eval p input a (tree.Binary op c d)) ≡ result_of (eval q input b (tree.Binary op (renamed names c) (renamed names d)))
@@ -98,11 +101,14 @@ module _ (p q : Program) (input a b : List ℤ) (names : List Renamed) (visible 
       ∙ ap₂ (λ (v w : Result ℤ FaultKind). bind v (λ x. bind w (binary_result op x))) h k
       ∙ sym (result-Binary q input b op (renamed names c) (renamed names d))
 
-  same-And : (c d : Expr) → Same c → Same d → result_of (eval p input a (tree.And c d)) ≡ result_of (eval q input b (tree.And (renamed names c) (renamed names d)))
-  same-And c d h k = result-And p input a c d ∙ ap₂ (λ (v w : Result ℤ FaultKind). bind v (and_also w)) h k ∙ sym (result-And q input b (renamed names c) (renamed names d))
+  same-And : (c d : Expr) → Same c → Same d → result_of (eval p input a (tree.And c d)) ≡ result_of
+      (eval q input b (tree.And (renamed names c) (renamed names d)))
+  same-And c d h k = result-And p input a c d ∙ ap₂ (λ (v w : Result ℤ FaultKind). bind v (and_also w)) h k
+      ∙ sym (result-And q input b (renamed names c) (renamed names d))
 
   same-Or : (c d : Expr) → Same c → Same d → result_of (eval p input a (tree.Or c d)) ≡ result_of (eval q input b (tree.Or (renamed names c) (renamed names d)))
-  same-Or c d h k = result-Or p input a c d ∙ ap₂ (λ (v w : Result ℤ FaultKind). bind v (or_also w)) h k ∙ sym (result-Or q input b (renamed names c) (renamed names d))
+  same-Or c d h k = result-Or p input a c d ∙ ap₂ (λ (v w : Result ℤ FaultKind). bind v (or_also w)) h k
+      ∙ sym (result-Or q input b (renamed names c) (renamed names d))
 
   pub same_value : (e : Expr) → knows visible e ≡ true → Same e
   unfolding opened

@@ -14,7 +14,7 @@ use Rattle.dp_tree.specs.Trace.{Run, run_of, run_by, end_at, extended, printed_b
 use Rattle.dp_tree.specs.Iteration.{cells_after}
 use Rattle.dp_calls.specs.Frame.{Frame, State, global_count}
 use Rattle.dp_calls.specs.FrameStep.{FrameStep, step_frames}
-use Rattle.dp_calls.specs.Frames.{Outcome, frames_end, with_step, outcome_by, frames_from}
+use Rattle.dp_calls.specs.Frames.{CallsOutcome, frames_end, with_step, outcome_by, frames_from}
 use Rattle.dp_calls.specs.Meaning.{outcome_of_run}
 use Rattle.dp_calls.proofs.Relation.{Env, Laid, Binds, binds}
 use Rattle.dp_calls.proofs.Stacks.{Sim, ends, acting, leaving, binding, Alike}
@@ -39,7 +39,8 @@ module _ (p q : Program) (laid : Laid p q) (input : List ℤ) where
       subst (λ (m : List ℤ). StepsAlike p q (step_frames p input c c.frames) (step_from q input m d.to_do)) (sym alike.cells)
       (sim_steps c alike.own alike.whole c.frames d.to_do alike.sim)
 
-  end_bound : {e g : Env} {visible : List ℕ} {line : ℕ} {x : VarId} {params : List VarId} {a : Expr} {args : List Expr} {bindings : List Stmt} (rest : List Stmt) → Binds p q e g visible line (x ∷ params) (a ∷ args) bindings →
+  end_bound : {e g : Env} {visible : List ℕ} {line : ℕ} {x : VarId} {params : List VarId} {a : Expr} {args : List Expr} {bindings : List Stmt}
+      (rest : List Stmt) → Binds p q e g visible line (x ∷ params) (a ∷ args) bindings →
       Fuel ≡ end_at (bindings ++ rest)
   end_bound rest (binds _ _ _ _ _) = refl
 
@@ -55,11 +56,12 @@ module _ (p q : Program) (laid : Laid p q) (input : List ℤ) where
     globals_are c d alike =
         sym (ap (take (global_count q)) alike.cells ∙ take_at c.globals alike.own (global_count q) (alike.whole ∙ sym same))
 
-    abbrev outcome_as : List ℤ → List ℤ → ℕ → End → Outcome
+    abbrev outcome_as : List ℤ → List ℤ → ℕ → End → CallsOutcome
     outcome_as printed globals steps end = record { prints = printed; globals = globals; steps = steps; end = end }
 
-    stepped_outcome : Option ℤ → Run → Outcome
-    stepped_outcome z run = outcome_as (cons_option z (prints run.trace)) (take (global_count q) (cells_after run (length run.trace))) (suc (length run.trace)) run.end
+    stepped_outcome : Option ℤ → Run → CallsOutcome
+    stepped_outcome z run =
+        outcome_as (cons_option z (prints run.trace)) (take (global_count q) (cells_after run (length run.trace))) (suc (length run.trace)) run.end
 
     with_step_is : (z : Option ℤ) (run : Run) → with_step z (outcome_of_run q run) ≡ stepped_outcome z run
     unfolding stepped_outcome
@@ -67,13 +69,15 @@ module _ (p q : Program) (laid : Laid p q) (input : List ℤ) where
     with_step_is (Some z) run = refl
 
     -- one step more on both sides
-    stepped_as : (z : Option ℤ) (d : Config) (event : Event) (n : ℕ) (run : Run) (outcome : Outcome) → printed_by event.effect ≡ z → outcome ≡ outcome_of_run q run →
+    stepped_as : (z : Option ℤ) (d : Config) (event : Event) (n : ℕ) (run : Run) (outcome : CallsOutcome) → printed_by event.effect ≡ z →
+        outcome ≡ outcome_of_run q run →
         with_step z outcome ≡ outcome_of_run q (extended n d event run)
     unfolding stepped_outcome
     stepped_as z d event n run outcome printed is =
-        ap (λ (w : Outcome). with_step z w) is ∙ with_step_is z run ∙ ap (λ (w : Option ℤ). stepped_outcome w run) (sym printed)
+        ap (λ (w : CallsOutcome). with_step z w) is ∙ with_step_is z run ∙ ap (λ (w : Option ℤ). stepped_outcome w run) (sym printed)
 
-    outcomes_by : (n : ℕ) (go : (c : State) (d : Config) → Alike p q c d → frames_from p input n c ≡ outcome_of_run q (run_of q input n d)) (c : State) (d : Config) → Alike p q c d →
+    outcomes_by : (n : ℕ) (go : (c : State) (d : Config) → Alike p q c d → frames_from p input n c ≡ outcome_of_run q (run_of q input n d)) (c : State)
+        (d : Config) → Alike p q c d →
         (s : FrameStep) (t : Step) → StepsAlike p q s t → outcome_by (frames_from p input n) c s ≡ outcome_of_run q (run_by (run_of q input n) (suc n) d t)
     outcomes_by n go c d alike s t both_end = ap (λ (g : List ℤ). outcome_as [] g 0 Done) (globals_are c d alike)
     outcomes_by n go c d alike s t (both_fault fault) = ap (λ (g : List ℤ). outcome_as [] g 0 (Fault fault)) (globals_are c d alike)
@@ -83,5 +87,6 @@ module _ (p q : Program) (laid : Laid p q) (input : List ℤ) where
     -- the outcome from alike states on
     pub outcomes_alike : (n : ℕ) (c : State) (d : Config) → Alike p q c d → frames_from p input n c ≡ outcome_of_run q (run_of q input n d)
     unfolding run_of
-    outcomes_alike zero c d alike = ap₂ (λ (g : List ℤ) (end : End). outcome_as [] g 0 end) (globals_are c d alike) (sim_end alike.own c.frames d.to_do alike.sim)
+    outcomes_alike zero c d alike =
+        ap₂ (λ (g : List ℤ) (end : End). outcome_as [] g 0 end) (globals_are c d alike) (sim_end alike.own c.frames d.to_do alike.sim)
     outcomes_alike (suc n) c d alike = outcomes_by n (outcomes_alike n) c d alike (step_frames p input c c.frames) (step q input d) (steps_alike c d alike)

@@ -8,8 +8,9 @@ use Rattle.dp_tree.specs.declared.Program.{Program}
 use Rattle.dp_tree.specs.Functions.{body_in, params_in}
 use Rattle.dp_tree.specs.Scoping.{global_numbers, seen_behind_params}
 use Rattle.dp_tree.specs.Step.{Config, behind_region}
-use Rattle.dp_calls.specs.Frame.{Frame, State, fresh, global_count}
-use Rattle.dp_calls.proofs.Relation.{Env, file_count, IsEnv, Nested, Within, Declares, known, new, Binds, Acts, assigns, Tries, Leaving, One, act, call, Block, done, more, Todo, next, leave, Held, file, held, Agree, Room}
+use Rattle.dp_calls.specs.Frame.{Frame, State, fresh_frame, global_count}
+use Rattle.dp_calls.proofs.Relation.{Env, file_count, IsEnv, Nested, Within, Declares, known, new, Binds, Acts, assigns, Tries, Leaving, One, act, call, Block}
+use Rattle.dp_calls.proofs.Relation.{done, more, Todo, next, leave, Held, file, held, Agree, Room}
 use Rattle.dp_calls.proofs.SameValues.{sees_more}
 use Rattle.dp_calls.proofs.Written.{Keeps}
 
@@ -20,7 +21,7 @@ module _ (p q : Program) where
     pub todo : Todo p q e visible f.to_do text
     pub agree : Agree p q e visible f.locals h
     pub room : Room p q f.locals h
-    pub callee : f.callee ≡ fresh p
+    pub callee : f.callee ≡ fresh_frame p
 
   -- the frames below one of the call e, and the text behind its own
   pub data Stack : Env → List Frame → List Stmt → List ℤ → Type 0 where
@@ -36,7 +37,8 @@ module _ (p q : Program) where
     pub stack : Stack e below rest h
 
   -- a call of g whose first parameters are bound
-  pub record Filling (e g : Env) (visible : List ℕ) (f line : ℕ) (x : VarId) (params : List VarId) (a : Expr) (args : List Expr) (callee : List ℤ) (binding body : List Stmt) (h : List ℤ) : Type 0 where
+  pub record Filling (e g : Env) (visible : List ℕ) (f line : ℕ) (x : VarId) (params : List VarId) (a : Expr) (args : List Expr) (callee : List ℤ)
+      (binding body : List Stmt) (h : List ℤ) : Type 0 where
     pub env : IsEnv p q g
     pub nested : Nested p q e g
     pub calls : g.calls ≡ f
@@ -51,11 +53,13 @@ module _ (p q : Program) where
   pub data Sim (h : List ℤ) : List Frame → List Stmt → Type 0 where
     ends : Sim h [] []
     acting : {e : Env} {visible behind : List ℕ} {f : Frame} {below : List Frame} {s t : Stmt} {statements text rest code : List Stmt} →
-        Ready e visible f below rest h → f.callee ≡ fresh p → f.to_do ≡ s ∷ statements → Acts p q e visible behind s t → Todo p q e behind statements text →
+        Ready e visible f below rest h → f.callee ≡ fresh_frame p → f.to_do ≡ s ∷ statements → Acts p q e visible behind s t →
+        Todo p q e behind statements text →
         code ≡ t ∷ (text ++ rest) → Sim h (f ∷ below) code
     leaving : {e : Env} {visible outer : List ℕ} {r : ℕ} {f : Frame} {below : List Frame} {s t : Stmt} {statements text rest code : List Stmt} →
-        Ready e visible f below rest h → f.callee ≡ fresh p → f.to_do ≡ s ∷ statements → Tries p q e visible s t → Todo p q e visible statements text →
-        Leaving p q e visible outer r statements text → Todo p q e outer (behind_region statements) (behind_region text) → code ≡ t ∷ (text ++ rest) → Sim h (f ∷ below) code
+        Ready e visible f below rest h → f.callee ≡ fresh_frame p → f.to_do ≡ s ∷ statements → Tries p q e visible s t → Todo p q e visible statements text →
+        Leaving p q e visible outer r statements text → Todo p q e outer (behind_region statements) (behind_region text) → code ≡ t ∷ (text ++ rest) →
+        Sim h (f ∷ below) code
     binding : {e g : Env} {visible : List ℕ} {f : Frame} {below : List Frame} {s : Stmt} {statements text rest bindings body code : List Stmt}
         {k line : ℕ} {x : VarId} {params : List VarId} {a : Expr} {args : List Expr} →
         Ready e visible f below rest h → f.to_do ≡ s ∷ statements → out-Stmt s ≡ Call k line (a ∷ args) →
@@ -82,7 +86,8 @@ module _ (p q : Program) where
   one_within (call _ _ _ _ _ _ _) = λ x seen. seen
 
   -- a block, and then what comes behind it
-  pub block_then : {e : Env} {outer visible : List ℕ} {rest text : List Stmt} → Todo p q e outer rest text → {inside code : List Stmt} → Block p q e visible inside code → Within p q outer visible →
+  pub block_then : {e : Env} {outer visible : List ℕ} {rest text : List Stmt} → Todo p q e outer rest text → {inside code : List Stmt} →
+      Block p q e visible inside code → Within p q outer visible →
       Todo p q e visible (inside ++ rest) (code ++ text)
   block_then behind done sub = leave sub behind
   block_then {text = text} behind (more {first = first} {text = own} one block is) sub =
@@ -98,7 +103,8 @@ module _ (p q : Program) where
       held y named (same ∙ sym (keeps (y - file_count p) outside))
 
   -- values of other calls don't matter to a caller
-  pub agree_kept : {d e : Env} (env : IsEnv p q d) (nested : Nested p q d e) (visible : List ℕ) (l h k : List ℤ) → Keeps p q e h k → Agree p q d visible l h → Agree p q d visible l k
+  pub agree_kept : {d e : Env} (env : IsEnv p q d) (nested : Nested p q d e) (visible : List ℕ) (l h k : List ℤ) → Keeps p q e h k → Agree p q d visible l h →
+      Agree p q d visible l k
   agree_kept env nested visible l h k keeps agree x seen = held_kept env nested l h k keeps x.0 (agree x seen)
 
   pub keeps_wider : {d e : Env} (nested : Nested p q d e) (h k : List ℤ) → Keeps p q e h k → Keeps p q d h k
@@ -106,7 +112,8 @@ module _ (p q : Program) where
       keeps j (elim outside [ inl less ↦ inl (omega (arith, less, nested.low)) | inr above ↦ inr (omega (arith, above, nested.high)) ])
 
   -- nor to the frames below
-  pub stack_kept : (h k : List ℤ) → length k ≡ length h → {e : Env} {below : List Frame} {code : List Stmt} → Keeps p q e h k → Stack e below code h → Stack e below code k
+  pub stack_kept : (h k : List ℤ) → length k ≡ length h → {e : Env} {below : List Frame} {code : List Stmt} → Keeps p q e h k → Stack e below code h →
+      Stack e below code k
   stack_kept h k long keeps bottom = bottom
   stack_kept h k long keeps (over {visible = visible} {f = f} suits nested stack is) =
       over

@@ -1,5 +1,6 @@
 -- How the tables of an expanded program grow: at their ends, so that what stands there stays.
-use Rattle.std.proofs.Common.{◌≡◌, inl, inr, refl, sym, ap, ◌∙◌, subst, ℕ, zero, suc, ◌+◌, ◌-◌, ◌≤◌, Bool, true, false, if◌then◌else◌, List, [], ◌∷◌, ◌++◌, ℤ, length, length-append, replicate, append-nil, append_assoc, Option, Some, None, slice_get, arith}
+use Rattle.std.proofs.Common.{◌≡◌, inl, inr, refl, sym, ap, ◌∙◌, subst, ℕ, zero, suc, ◌+◌, ◌-◌, ◌≤◌, Bool, true, false, if◌then◌else◌, List, [], ◌∷◌, ◌++◌, ℤ}
+use Rattle.std.proofs.Common.{length, length-append, replicate, append-nil, append_assoc, Option, Some, None, slice_get, arith}
 use Rattle.std.proofs.lemmas.List.{length-replicate}
 use Rattle.dp_base.specs.declared.SiteId.{SiteId}
 use Rattle.dp_room.proofs.ListLemmas.{get_before, get_pushed}
@@ -9,7 +10,7 @@ use Rattle.dp_tree.specs.declared.Program.{Program}
 use Rattle.dp_tree.specs.Globals.{is_global_scope, globals_in}
 use Rattle.dp_tree.specs.Trace.{start_cells}
 use Rattle.dp_calls.specs.Frame.{global_count}
-use Rattle.dp_calls.specs.Tables.{Tables, scope_in, moved_to, with_local, with_site, site_in, with_source_site, with_region}
+use Rattle.dp_calls.specs.Tables.{Tables, scope_in, moved_to, with_local, with_site, site_entry, with_source_site, with_region}
 use Rattle.dp_calls.proofs.Relation.{PlaceOf, own, file_count}
 
 pub get_last : {X : Type 0} (xs : List X) (y : X) → slice_get (xs ++ y ∷ []) (length xs) ≡ Some y
@@ -18,7 +19,8 @@ get_last (z ∷ xs) y = get_last xs y
 
 pub start_cells-append : (a b : List VarInfo) → start_cells (a ++ b) ≡ start_cells a ++ start_cells b
 start_cells-append [] b = refl
-start_cells-append (x ∷ a) b = ap (λ (c : List ℤ). replicate x.length x.start ++ c) (start_cells-append a b) ∙ sym (append_assoc (replicate x.length x.start) (start_cells a) (start_cells b))
+start_cells-append (x ∷ a) b = ap (λ (c : List ℤ). replicate x.length x.start ++ c) (start_cells-append a b)
+    ∙ sym (append_assoc (replicate x.length x.start) (start_cells a) (start_cells b))
 
 files_if : (t : Bool) (x : VarInfo) (a b : List VarInfo) → (if t then x ∷ (a ++ b) else a ++ b) ≡ (if t then x ∷ a else a) ++ b
 files_if true x a b = refl
@@ -27,7 +29,8 @@ files_if false x a b = refl
 globals_in-append : (a b : List VarInfo) → globals_in (a ++ b) ≡ globals_in a ++ globals_in b
 globals_in-append [] b = refl
 globals_in-append (x ∷ a) b =
-    ap (λ (c : List VarInfo). if is_global_scope x.scope then x ∷ c else c) (globals_in-append a b) ∙ files_if (is_global_scope x.scope) x (globals_in a) (globals_in b)
+    ap (λ (c : List VarInfo). if is_global_scope x.scope then x ∷ c else c) (globals_in-append a b)
+    ∙ files_if (is_global_scope x.scope) x (globals_in a) (globals_in b)
 
 scope_no_file : (r : ℕ) → is_global_scope (scope_in r) ≡ false
 scope_no_file zero = refl
@@ -55,7 +58,14 @@ pub grows_site : (info : SiteInfo) (t : Tables) → Grows t (with_site info t)
 grows_site info t = record { vars = λ k v at. at; sites = λ k v at. get_before t.sites (info ∷ []) k v at; long = omega arith; files = refl }
 
 pub grows_source_site : (p : Program) (r : ℕ) (site : SiteId) (t : Tables) → Grows t (with_source_site p r site t)
-grows_source_site p r site t = record { vars = λ k v at. at; sites = λ k v at. get_before t.sites (site_in (slice_get p.sites (site.0 - 1)) r) k v at; long = omega arith; files = refl }
+grows_source_site p r site t =
+    record {
+      vars = λ k v at. at;
+      sites = λ k v at. get_before t.sites (site_entry (slice_get p.sites (site.0 - 1))
+          r) k v at;
+      long = omega arith;
+      files = refl;
+    }
 
 pub grows_region : (line : ℕ) (first : SiteId) (t : Tables) → Grows t (with_region line first t)
 grows_region line first t = record { vars = λ k v at. at; sites = λ k v at. at; long = omega arith; files = refl }
@@ -72,7 +82,8 @@ grows_local p r x t =
       vars = λ k v at. get_before t.vars more k v at;
       sites = λ k v at. at;
       long = omega (arith, total);
-      files = globals_in-append t.vars more ∙ ap (λ (c : List VarInfo). globals_in t.vars ++ c) (no_files_moved (slice_get p.vars x) t.cells r) ∙ append-nil (globals_in t.vars);
+      files = globals_in-append t.vars more ∙ ap (λ (c : List VarInfo). globals_in t.vars ++ c) (no_files_moved (slice_get p.vars x) t.cells r)
+          ∙ append-nil (globals_in t.vars);
     }
 
 -- the variables lie in order so far
@@ -89,31 +100,38 @@ pub record Lies (p : Program) (t : Tables) : Type 0 where
 abbrev pub moved : VarInfo → ℕ → ℕ → VarInfo
 moved info cell r = record info { first = record { 0 = cell }; scope = scope_in r }
 
-pub local_vars : (p : Program) (r x : ℕ) (t : Tables) (info : VarInfo) → slice_get p.vars x ≡ Some info → (with_local p r x t).vars ≡ t.vars ++ moved info t.cells r ∷ []
+pub local_vars : (p : Program) (r x : ℕ) (t : Tables) (info : VarInfo) → slice_get p.vars x ≡ Some info → (with_local p r x t).vars ≡ t.vars
+    ++ moved info t.cells r ∷ []
 local_vars p r x t info at = ap (λ (o : Option VarInfo). t.vars ++ moved_to o t.cells r) at
 
-pub local_length : (p : Program) (r x : ℕ) (t : Tables) (info : VarInfo) → slice_get p.vars x ≡ Some info → length (with_local p r x t).vars ≡ suc (length t.vars)
+pub local_length : (p : Program) (r x : ℕ) (t : Tables) (info : VarInfo) → slice_get p.vars x ≡ Some info →
+    length (with_local p r x t).vars ≡ suc (length t.vars)
 local_length p r x t info at =
     let total : length (t.vars ++ moved info t.cells r ∷ []) ≡ length t.vars + 1 = length-append t.vars (moved info t.cells r ∷ []) in
     let one : length (t.vars ++ moved info t.cells r ∷ []) ≡ suc (length t.vars) = omega (arith, total) in
     ap (λ (vs : List VarInfo). length vs) (local_vars p r x t info at) ∙ one
 
 -- so they do with one variable more
-pub lies_local : (p : Program) (r x : ℕ) (t : Tables) (info : VarInfo) → slice_get p.vars x ≡ Some info → info.length ≡ 1 → Lies p t → Lies p (with_local p r x t)
+pub lies_local : (p : Program) (r x : ℕ) (t : Tables) (info : VarInfo) → slice_get p.vars x ≡ Some info → info.length ≡ 1 → Lies p t →
+    Lies p (with_local p r x t)
 lies_local p r x t info at one lies =
     let v : VarInfo = moved info t.cells r in let long = local_length p r x t info at in
     let next : PlaceOf (file_count p) (global_count p) (length t.vars) v = own lies.above (scope_no_file r) lies.cells one in
-    let more : length (lies.own ++ (replicate v.length v.start ++ [])) ≡ length lies.own + length (replicate v.length v.start ++ []) = length-append lies.own (replicate v.length v.start ++ []) in
-    let last : length (replicate v.length v.start ++ []) ≡ v.length = ap (λ (c : List ℤ). length c) (append-nil (replicate v.length v.start)) ∙ length-replicate v.length v.start in
+    let more : length (lies.own ++ (replicate v.length v.start ++ [])) ≡ length lies.own + length (replicate v.length v.start ++ []) = length-append lies.own
+    (replicate v.length v.start ++ []) in
+    let last : length (replicate v.length v.start ++ []) ≡ v.length = ap (λ (c : List ℤ). length c) (append-nil (replicate v.length v.start))
+    ∙ length-replicate v.length v.start in
     record {
       place = λ k w there. elim (get_pushed t.vars v k w (sym (ap (λ (vs : List VarInfo). slice_get vs k) (local_vars p r x t info at)) ∙ there)) [
         | inl before ↦ lies.place k w before
-        | inr both ↦ subst (λ (n : ℕ). PlaceOf (file_count p) (global_count p) n w) (sym both.0) (subst (λ (u : VarInfo). PlaceOf (file_count p) (global_count p) (length t.vars) u) both.1 next)
+        | inr both ↦ subst (λ (n : ℕ). PlaceOf (file_count p) (global_count p) n w) (sym both.0)
+            (subst (λ (u : VarInfo). PlaceOf (file_count p) (global_count p) (length t.vars) u) both.1 next)
       ];
       cells = omega (arith, lies.cells, long);
       above = omega (arith, lies.above, long);
       own = lies.own ++ (replicate v.length v.start ++ []);
-      start = ap start_cells (local_vars p r x t info at) ∙ start_cells-append t.vars (v ∷ []) ∙ ap (λ (c : List ℤ). c ++ (replicate v.length v.start ++ [])) lies.start
+      start = ap start_cells (local_vars p r x t info at) ∙ start_cells-append t.vars (v ∷ [])
+          ∙ ap (λ (c : List ℤ). c ++ (replicate v.length v.start ++ [])) lies.start
           ∙ append_assoc (start_cells (globals_in p.vars)) lies.own (replicate v.length v.start ++ []);
       room = omega (arith, more, last, one, long, lies.room);
     }

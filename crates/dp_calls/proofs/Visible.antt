@@ -1,5 +1,6 @@
 -- Visible variables read the same in a frame's memory and in the expanded one.
-use Rattle.std.proofs.Common.{◌≡◌, refl, sym, ap, ◌∙◌, subst, ℕ, ◌+◌, ◌-◌, ◌<◌, ◌≤◌, true, List, ◌++◌, ℤ, pos, length, get_or, Option, Some, None, slice_get, arith}
+use Rattle.std.proofs.Common.{◌≡◌, refl, sym, ap, ◌∙◌, subst, ℕ, ◌+◌, ◌-◌, ◌<◌, ◌≤◌, true, List, ◌++◌, ℤ, pos, length, get_or, Option, Some, None, slice_get}
+use Rattle.std.proofs.Common.{arith}
 use Rattle.std.proofs.lemmas.List.{get_or_append_left, get_or-append_right}
 use Rattle.dp_base.specs.declared.VarId.{VarId}
 use Rattle.dp_room.proofs.ListLemmas.{at_index}
@@ -34,7 +35,8 @@ module _ (p q : Program) (laid : Laid p q) (e : Env) (env : IsEnv p q e) where
     pub some : 0 < cell_count p x
     pub within : first_cell p x + cell_count p x ≤ global_count p
 
-  file_place : (x : VarId) (info : VarInfo) → slice_get p.vars x.0 ≡ Some info → x.0 < file_count p → PlaceOf (file_count p) (global_count p) x.0 info → FileAt x
+  file_place : (x : VarId) (info : VarInfo) → slice_get p.vars x.0 ≡ Some info → x.0 < file_count p →
+      PlaceOf (file_count p) (global_count p) x.0 info → FileAt x
   file_place x info at less (file _ _ within some) =
       let length_is : cell_count p x ≡ info.length = ap length_of at in let first_is : first_cell p x ≡ info.first.0 = ap first_of at in
       record {
@@ -61,7 +63,8 @@ module _ (p q : Program) (laid : Laid p q) (e : Env) (env : IsEnv p q e) where
     pub target_behind : file_count p ≤ y
     pub target_within : y < length q.vars
 
-  own_place : (x : VarId) (y : ℕ) (info there : VarInfo) → slice_get p.vars x.0 ≡ Some info → slice_get q.vars y ≡ Some there → file_count p ≤ x.0 → x.0 < length p.vars → file_count p ≤ y → y < length q.vars →
+  own_place : (x : VarId) (y : ℕ) (info there : VarInfo) → slice_get p.vars x.0 ≡ Some info → slice_get q.vars y ≡ Some there → file_count p ≤ x.0 →
+      x.0 < length p.vars → file_count p ≤ y → y < length q.vars →
       PlaceOf (file_count p) (global_count p) x.0 info → PlaceOf (file_count p) (global_count p) y there → OwnAt x y
   own_place x y info there at to b w c v (file less _ _ _) _ = absurd (omega (arith, less, b))
   own_place x y info there at to b w c v (own _ _ first one) (file less _ _ _) = absurd (omega (arith, less, c))
@@ -101,7 +104,8 @@ module _ (p q : Program) (laid : Laid p q) (e : Env) (env : IsEnv p q e) where
               ∙ ap (λ (c : ℕ). get_or (g ++ h) (c + k) (pos 0)) (sym at.first);
         }
 
-    own_reads : (x : VarId) (y : ℕ) → named_in e.names x.0 ≡ Some y → get_or l (x.0 - file_count p) (pos 0) ≡ get_or h (y - file_count p) (pos 0) → ReadsSame p q (g ++ l) (g ++ h) x (record { 0 = y })
+    own_reads : (x : VarId) (y : ℕ) → named_in e.names x.0 ≡ Some y → get_or l (x.0 - file_count p) (pos 0) ≡ get_or h (y - file_count p) (pos 0) →
+        ReadsSame p q (g ++ l) (g ++ h) x (record { 0 = y })
     own_reads x y named same =
         let at = own_at x y named in let one : cell_count p x ≡ cell_count q (record { 0 = y }) = at.count ∙ sym at.target_count in
         record {
@@ -109,13 +113,17 @@ module _ (p q : Program) (laid : Laid p q) (e : Env) (env : IsEnv p q e) where
           some = omega (arith, at.count);
           cells = λ k below.
               let here : first_cell p x + k ≡ length g + (x.0 - file_count p) = omega (arith, below, at.count, at.first, at.source_behind, whole) in
-              let there : first_cell q (record { 0 = y }) + k ≡ length g + (y - file_count p) = omega (arith, below, at.count, at.target_first, at.target_behind, whole) in
-              own_cell g l (first_cell p x + k) (x.0 - file_count p) here ∙ same ∙ sym (own_cell g h (first_cell q (record { 0 = y }) + k) (y - file_count p) there);
+              let there : first_cell q (record { 0 = y }) + k ≡ length g + (y - file_count p) = omega
+              (arith, below, at.count, at.target_first, at.target_behind, whole) in
+              own_cell g l (first_cell p x + k) (x.0 - file_count p) here ∙ same
+              ∙ sym (own_cell g h (first_cell q (record { 0 = y }) + k) (y - file_count p) there);
         }
 
     reads_held : (x : VarId) → Held p q e l h x.0 → ReadsSame p q (g ++ l) (g ++ h) x (target_of e.names x)
     reads_held x (file less) = subst (λ (y : VarId). ReadsSame p q (g ++ l) (g ++ h) x y) (sym (target_file x less)) (file_reads x less)
-    reads_held x (held y named same) = subst (λ (y : VarId). ReadsSame p q (g ++ l) (g ++ h) x y) (sym (ap (λ (o : Option ℕ). target_or o x.0) named)) (own_reads x y named same)
+    reads_held x (held y named same) =
+        subst (λ (y : VarId). ReadsSame p q (g ++ l) (g ++ h) x y) (sym (ap (λ (o : Option ℕ). target_or o x.0) named)) (own_reads x y named same)
 
-    pub reads_visible : (visible : List ℕ) → Agree p q e visible l h → (x : VarId) → sees visible x ≡ true → ReadsSame p q (g ++ l) (g ++ h) x (target_of e.names x)
+    pub reads_visible : (visible : List ℕ) → Agree p q e visible l h → (x : VarId) → sees visible x ≡ true →
+        ReadsSame p q (g ++ l) (g ++ h) x (target_of e.names x)
     reads_visible visible agree x seen = reads_held x (agree x seen)

@@ -1,5 +1,6 @@
 -- The whole expanded program: the text of `main` with its regions, and the start.
-use Rattle.std.proofs.Common.{◌≡◌, ◌⊎◌, inl, inr, refl, sym, ap, ◌∙◌, subst, ℕ, zero, suc, ◌<◌, ◌≤◌, ◌==◌, Bool, true, false, ◌||◌, if◌then◌else◌, List, [], ◌∷◌, length, Option, Some, None, slice_get, arith, eqb-true}
+use Rattle.std.proofs.Common.{◌≡◌, ◌⊎◌, inl, inr, refl, sym, ap, ◌∙◌, subst, ℕ, zero, suc, ◌<◌, ◌≤◌, ◌==◌, Bool, true, false, ◌||◌, if◌then◌else◌, List, []}
+use Rattle.std.proofs.Common.{◌∷◌, length, Option, Some, None, slice_get, arith, eqb-true}
 use Rattle.std.specs.List.{list_all}
 use Rattle.std.proofs.lemmas.Option.{same_Some}
 use Rattle.dp_base.specs.declared.SiteId.{SiteId}
@@ -20,8 +21,8 @@ use Rattle.dp_tree.specs.Scoping.{sees, knows, is_scope_in, is_declared_in, seen
 use Rattle.dp_tree.specs.Step.{line_of, is_local_of}
 use Rattle.dp_calls.specs.Frame.{global_count}
 use Rattle.dp_calls.specs.Renaming.{Renamed, renamed}
-use Rattle.dp_calls.specs.Tables.{Tables, scope_in, with_source_site, next_site}
-use Rattle.dp_calls.specs.Expand.{Piece, behind, as_region, Calls, expand_one, expand_rows, expand_list, calls_within}
+use Rattle.dp_calls.specs.Tables.{Tables, scope_in, with_source_site, new_site}
+use Rattle.dp_calls.specs.Expand.{Piece, piece_behind, as_region, Calls, expand_one, expand_rows, expand_list, calls_within}
 use Rattle.dp_tree.proofs.Heads.{and_true}
 use Rattle.dp_tree.specs.Statements.{listed}
 use Rattle.dp_tree.proofs.InnerTexts.{shown_listed}
@@ -58,15 +59,18 @@ quiet_outer : (k : ℕ) (o : Option VarInfo) → is_declared_in 0 o ≡ true →
 quiet_outer k None e = refl
 quiet_outer k (Some info) e = ap (is_local_of k) (scope_is 0 info.scope e)
 
-module _ (p q : Program) (places : (x : ℕ) (info : VarInfo) → slice_get p.vars x ≡ Some info → PlaceOf (file_count p) (global_count p) x info) (there : file_count p ≤ length p.vars)
+module _ (p q : Program) (places : (x : ℕ) (info : VarInfo) → slice_get p.vars x ≡ Some info → PlaceOf (file_count p) (global_count p) x info)
+    (there : file_count p ≤ length p.vars)
     (text_of : (f : ℕ) → TextOf p f (slice_get p.functions f)) where
   -- calls that nest no deeper than this
   pub calls_made : (depth : ℕ) → depth ≤ length p.functions → (f : ℕ) → f < depth → (r : ℕ) → Called p q (calls_within p depth) r f
   calls_made zero within f less r low names t above ok lies seen = absurd (omega (arith, less))
   calls_made (suc depth) within f less r low names t above ok lies seen =
       let text = text_of f in
-      list_made p q places there (Homely r) low f 0 r (λ info cell is. home_moved r info cell) (calls_within p depth) (omega (arith, less, within)) (λ g. (text_of g).params)
-      (λ g below. (let deeper : g < depth = omega (arith, below, less) in let shallow : depth ≤ length p.functions = omega (arith, within) in calls_made depth shallow g deeper r))
+      list_made p q places there (Homely r) low f 0 r (λ info cell is. home_moved r info cell) (calls_within p depth) (omega (arith, less, within))
+      (λ g. (text_of g).params)
+      (λ g below. (let deeper : g < depth = omega (arith, below, less) in let shallow : depth ≤ length p.functions = omega (arith, within) in
+      calls_made depth shallow g deeper r))
       (body_in (slice_get p.functions f)) (seen_in p f) names t text.scoped text.plain text.listed ok lies seen
 
   abbrev pub most : ℕ
@@ -84,13 +88,14 @@ module _ (p q : Program) (places : (x : ℕ) (info : VarInfo) → slice_get p.va
 
   -- what a statement at the top, and what several become
   abbrev pub TopMade : List ℕ → List Renamed → Tables → List ℕ → Stmt → Piece → Type 0
-  TopMade visible names t behind s a = Made p q Linked (file_count p) most names t behind a (λ e. One p q e visible behind s a.code)
+  TopMade visible names t piece_behind s a = Made p q Linked (file_count p) most names t piece_behind a (λ e. One p q e visible piece_behind s a.code)
 
   abbrev pub MainMade : List ℕ → List Renamed → Tables → List Stmt → Piece → Type 0
   MainMade visible names t statements a = Made p q Linked (file_count p) most names t visible a (λ e. Block p q e visible statements a.code)
 
   -- a region's body locals aren't visible at the top
-  quiet_top : (k : ℕ) (visible : List ℕ) (names : List Renamed) (t : Tables) (e : Env) → NamesOk p Linked (file_count p) names t → Seen p visible names → TopSeen p visible → Closes p q (file_count p) most names t e → Quiet p q e visible k
+  quiet_top : (k : ℕ) (visible : List ℕ) (names : List Renamed) (t : Tables) (e : Env) → NamesOk p Linked (file_count p) names t → Seen p visible names →
+      TopSeen p visible → Closes p q (file_count p) most names t e → Quiet p q e visible k
   quiet_top k visible names t e ok seen top closes x y sees_x named = elim (seen x sees_x) [
     | inl less ↦ (let over = closes.files x.0 y named in absurd (omega (arith, less, over)))
     | inr old ↦ elim (top x sees_x) [
@@ -103,46 +108,62 @@ module _ (p q : Program) (places : (x : ℕ) (info : VarInfo) → slice_get p.va
     ]
   ]
 
-  region_by : (k : ℕ) (site : SiteId) (v : Expr) (m : _) (body : Row_of-Stmt _) (visible : List ℕ) (names : List Renamed) (t : Tables) (a : Piece) → knows visible v ≡ true → is_listed p site.0 ≡ true →
+  region_by : (k : ℕ) (site : SiteId) (v : Expr) (m : _) (body : Row_of-Stmt _) (visible : List ℕ) (names : List Renamed) (t : Tables) (a : Piece) →
+      knows visible v ≡ true → is_listed p site.0 ≡ true →
       NamesOk p Linked (file_count p) names t → Seen p visible names → TopSeen p visible →
       Made p q Linked (file_count p) most names (with_source_site p k site t) visible a (λ e. BodyOf p q e visible (listed body) a.code) →
-      TopMade visible names t visible (stmt.Region' k site v m body) (as_region (line_of p site) k (next_site t) (renamed names v) a)
+      TopMade visible names t visible (stmt.Region' k site v m body) (as_region (line_of p site) k (new_site t) (renamed names v) a)
   region_by k site v m body visible names t a known_v listed ok seen top made = record {
-    grows = grows_on (grows_source_site p k site t) (grows_on made.grows (grows_region (line_of p site) (next_site t) a.tables));
-    lies = record { place = made.lies.place; cells = made.lies.cells; above = made.lies.above; own = made.lies.own; start = made.lies.start; room = made.lies.room };
-    named = names_grow p Linked (file_count p) (grows_region (line_of p site) (next_site t) a.tables) made.named;
+    grows = grows_on (grows_source_site p k site t) (grows_on made.grows (grows_region (line_of p site) (new_site t) a.tables));
+    lies = record {
+      place = made.lies.place;
+      cells = made.lies.cells;
+      above = made.lies.above;
+      own = made.lies.own;
+      start = made.lies.start;
+      room = made.lies.room;
+    };
+    named = names_grow p Linked (file_count p) (grows_region (line_of p site) (new_site t) a.tables) made.named;
     steps = made.steps;
     seen = made.seen;
     becomes = λ e closes.
-        (let middle = closes_before p q (file_count p) most e (grows_region (line_of p site) (next_site t) a.tables) (steps_not a.names (length a.tables.vars)) closes in
+        (let middle = closes_before p q (file_count p) most e (grows_region (line_of p site) (new_site t) a.tables)
+        (steps_not a.names (length a.tables.vars)) closes in
         let begin = closes_before p q (file_count p) most e made.grows made.steps middle in
         let here = closes_before p q (file_count p) most e (grows_source_site p k site t) (steps_not names (length t.vars)) begin in
         act (marks (outs-Region' k site v m body ∙ ap (λ (x : List Stmt). Region k site v x) (shown_listed m body))
-        (outs-Region k (next_site t) (renamed names v) a.code ∙ ap (λ (w : Expr). Region k (next_site t) w a.code) (final_renamed p q places there Linked (file_count p) most k k (linked_moved k) visible names t e ok seen here v known_v))
+        (outs-Region k (new_site t) (renamed names v) a.code ∙ ap (λ (w : Expr). Region k (new_site t) w a.code)
+        (final_renamed p q places there Linked (file_count p) most k k (linked_moved k) visible names t e ok seen here v known_v))
         (source_line p q k site t listed begin.into) known_v (made.becomes e middle) (quiet_top k visible names t e ok seen top here) closes.may_call));
   }
 
   abbrev pub Ready : List ℕ → List Renamed → Tables → Type 0
   Ready visible names t = NamesOk p Linked (file_count p) names t × Lies p t × Seen p visible names × TopSeen p visible
 
-  plain_top : (s : Stmt) (visible : List ℕ) (names : List Renamed) (t : Tables) → in_scope p 0 most visible s ≡ true → is_plain s ≡ true → list_all (is_listed p) (site_numbers s) ≡ true → Ready visible names t →
+  plain_top : (s : Stmt) (visible : List ℕ) (names : List Renamed) (t : Tables) → in_scope p 0 most visible s ≡ true → is_plain s ≡ true →
+      list_all (is_listed p) (site_numbers s) ≡ true → Ready visible names t →
       TopMade visible names t (seen_behind visible s) s (expand_one p calls 0 s names t)
   plain_top s visible names t scoped plain listed ready =
-      one_made p q places there Linked (file_count p) most 0 0 (linked_moved 0) calls (omega arith) (λ g. (text_of g).params) (called 0) s visible names t scoped plain listed ready.0 ready.1 ready.2
+      one_made p q places there Linked (file_count p) most 0 0 (linked_moved 0) calls (omega arith) (λ g. (text_of g).params) (called 0) s visible names t
+      scoped plain listed ready.0 ready.1 ready.2
 
-  pub top_made : (k : ℕ) (s : Stmt) (visible : List ℕ) (names : List Renamed) (t : Tables) → in_scope p 0 most visible s ≡ true → top_fits k s ≡ true → list_all (is_listed p) (site_numbers s) ≡ true → Ready visible names t →
+  pub top_made : (k : ℕ) (s : Stmt) (visible : List ℕ) (names : List Renamed) (t : Tables) → in_scope p 0 most visible s ≡ true → top_fits k s ≡ true →
+      list_all (is_listed p) (site_numbers s) ≡ true → Ready visible names t →
       TopMade visible names t (seen_behind visible s) s (expand_one p calls 0 s names t)
   top_made k (stmt.Region' r site v m body) visible names t scoped fits listed ready =
       let both = and_true (knows visible v) (rows_in_scope p r most visible body) scoped in
       let plainly = and_true (r == k) (is_inner_in body) fits in
       let sites = and_true (is_listed p site.0) (list_all (is_listed p) (site_numbers_in body)) listed in
-      let inside = body_made p q places there Linked (file_count p) most r r (linked_moved r) calls (omega arith) (λ g. (text_of g).params) (called r) (plain_calls most) body visible names (with_source_site p r site t) both.1 plainly.1 sites.1
-      (names_sited p q places there Linked (file_count p) most r r (linked_moved r) site names t ready.0) (lies_sited p q places there Linked (file_count p) most r r (linked_moved r) site t ready.1) ready.2 in
+      let inside = body_made p q places there Linked (file_count p) most r r (linked_moved r) calls (omega arith) (λ g. (text_of g).params) (called r)
+      (plain_calls most) body visible names (with_source_site p r site t) both.1 plainly.1 sites.1
+      (names_sited p q places there Linked (file_count p) most r r (linked_moved r) site names t ready.0)
+      (lies_sited p q places there Linked (file_count p) most r r (linked_moved r) site t ready.1) ready.2 in
       region_by r site v m body visible names t (expand_rows p calls r body names (with_source_site p r site t)) both.0 sites.0 ready.0 ready.2 ready.3 inside
   top_made k (stmt.Break site v) visible names t scoped fits listed ready = absurd (cc fits)
   top_made k s visible names t scoped fits listed ready = plain_top s visible names t scoped fits listed ready
 
-  top_assigned : (b : Bool) (visible : List ℕ) (x : VarId) → sees visible x ≡ b → (b || is_declared_in 0 (slice_get p.vars x.0)) ≡ true → TopSeen p visible → TopSeen p (if b then visible else x.0 ∷ visible)
+  top_assigned : (b : Bool) (visible : List ℕ) (x : VarId) → sees visible x ≡ b → (b || is_declared_in 0 (slice_get p.vars x.0)) ≡ true → TopSeen p visible →
+      TopSeen p (if b then visible else x.0 ∷ visible)
   top_assigned true visible x is scoped top w at = top w at
   top_assigned false visible x is scoped top w at = elim (sees_one x.0 visible w at) [
     | inl same ↦ inr (subst (λ (n : ℕ). is_declared_in 0 (slice_get p.vars n) ≡ true) same scoped)
@@ -154,14 +175,18 @@ module _ (p q : Program) (places : (x : ℕ) (info : VarInfo) → slice_get p.va
       top_assigned (sees visible x) visible x refl (and_true (knows visible v) (sees visible x || is_declared_in 0 (slice_get p.vars x.0)) scoped).1 top
   top_behind visible _ scoped top = top
 
-  pub main_made : (k : ℕ) (statements : List Stmt) (visible : List ℕ) (names : List Renamed) (t : Tables) → all_in_scope p 0 most visible statements ≡ true → regions_in_order k statements ≡ true → list_all (is_listed p) (site_numbers_all statements) ≡ true →
+  pub main_made : (k : ℕ) (statements : List Stmt) (visible : List ℕ) (names : List Renamed) (t : Tables) → all_in_scope p 0 most visible statements ≡ true →
+      regions_in_order k statements ≡ true → list_all (is_listed p) (site_numbers_all statements) ≡ true →
       Ready visible names t → MainMade visible names t statements (expand_list p calls 0 statements names t)
   main_made k [] visible names t scoped fits listed ready =
-      none_made p q places there Linked (file_count p) most 0 0 (linked_moved 0) calls (omega arith) (λ g. (text_of g).params) (called 0) visible names t ready.0 ready.1 ready.2
+      none_made p q places there Linked (file_count p) most 0 0 (linked_moved 0) calls (omega arith) (λ g. (text_of g).params) (called 0) visible names t
+      ready.0 ready.1 ready.2
   main_made k (s ∷ rest) visible names t scoped fits listed ready =
       let both = and_true (in_scope p 0 most visible s) (all_in_scope p 0 most (seen_behind visible s) rest) scoped in
       let fit = and_true (top_fits k s) (regions_in_order (next_region k s) rest) fits in
       let parts = all_parts (is_listed p) (site_numbers s) (site_numbers_all rest) listed in
       let a : Piece = expand_one p calls 0 s names t in let first = top_made k s visible names t both.0 fit.0 parts.0 ready in
-      let second = main_made (next_region k s) rest (seen_behind visible s) a.names a.tables both.1 fit.1 parts.1 (first.named, first.lies, first.seen, top_behind visible s both.0 ready.3) in
-      both_made p q places there Linked (file_count p) most 0 0 (linked_moved 0) calls (omega arith) (λ g. (text_of g).params) (called 0) visible names t s rest a (expand_list p calls 0 rest a.names a.tables) ready.2 first second
+      let second = main_made (next_region k s) rest (seen_behind visible s) a.names a.tables both.1 fit.1 parts.1
+      (first.named, first.lies, first.seen, top_behind visible s both.0 ready.3) in
+      both_made p q places there Linked (file_count p) most 0 0 (linked_moved 0) calls (omega arith) (λ g. (text_of g).params) (called 0) visible names t s rest
+      a (expand_list p calls 0 rest a.names a.tables) ready.2 first second

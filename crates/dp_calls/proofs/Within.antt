@@ -1,5 +1,6 @@
 -- The text of an expanded program names only variables of its own.
-use Rattle.std.proofs.Common.{◌≡◌, inl, inr, refl, sym, ap, ◌∙◌, ℕ, ◌<◌, ◌≤◌, Bool, true, ◌&&◌, List, ◌∷◌, ◌++◌, length, Option, Some, None, nat_lt, arith, lt-ltb}
+use Rattle.std.proofs.Common.{◌≡◌, inl, inr, refl, sym, ap, ◌∙◌, ℕ, ◌<◌, ◌≤◌, Bool, true, ◌&&◌, List, ◌∷◌, ◌++◌, length, Option, Some, None, nat_lt, arith}
+use Rattle.std.proofs.Common.{lt-ltb}
 use Rattle.std.specs.List.{list_all}
 use Rattle.std.proofs.lemmas.List.Folds.{list_all-append}
 use Rattle.dp_base.specs.declared.VarId.{VarId}
@@ -16,7 +17,8 @@ use Rattle.dp_calls.specs.Renaming.{Renamed, named_in, target_or, target_of, ren
 use Rattle.dp_calls.specs.Expand.{expand}
 use Rattle.dp_tree.proofs.EvalLemmas.{opened}
 use Rattle.dp_tree.proofs.Heads.{everywhere_hidden, opened_statement, and_true, and_make}
-use Rattle.dp_calls.proofs.Relation.{Env, file_count, IsEnv, Declares, known, new, Binds, bound, binds, Acts, assigns, stores, prints, branches, loops, marks, One, act, call, Inside, stays, exits, Body, finished, onward, Block, done, more}
+use Rattle.dp_calls.proofs.Relation.{Env, file_count, IsEnv, Declares, known, new, Binds, bound, binds, Acts, assigns, stores, prints, branches, loops, marks}
+use Rattle.dp_calls.proofs.Relation.{One, act, call, Inside, stays, exits, Body, finished, onward, Block, done, more}
 use Rattle.dp_calls.proofs.SameValues.{sees_one}
 use Rattle.dp_calls.proofs.Named.{Seen}
 use Rattle.dp_calls.proofs.SameMeanings.{main_is_env, files_below, made, block}
@@ -108,7 +110,8 @@ module _ (p q : Program) (files : file_count p ≤ length q.vars) where
     | inr named ↦ named_below e env x named.0 named.1
   ]
 
-  value_within : (e : Env) (env : IsEnv p q e) (visible : List ℕ) → Seen p visible e.names → (v : Expr) → knows visible v ≡ true → expr_within count (renamed e.names v) ≡ true
+  value_within : (e : Env) (env : IsEnv p q e) (visible : List ℕ) → Seen p visible e.names → (v : Expr) → knows visible v ≡ true →
+      expr_within count (renamed e.names v) ≡ true
   value_within e env visible seen v k = renamed_within count e.names visible (target_below e env visible seen) v k
 
   -- one more variable with a name
@@ -118,26 +121,32 @@ module _ (p q : Program) (files : file_count p ≤ length q.vars) where
     | inr before ↦ seen z before
   ]
 
-  declared_within : {e : Env} {visible behind : List ℕ} {x : VarId} → IsEnv p q e → Seen p visible e.names → Declares p q e visible x behind → Below (target_of e.names x) × Seen p behind e.names
+  declared_within : {e : Env} {visible behind : List ℕ} {x : VarId} → IsEnv p q e → Seen p visible e.names → Declares p q e visible x behind →
+      Below (target_of e.names x) × Seen p behind e.names
   declared_within {e = e} {visible = visible} {x = x} env seen (known at) = (target_below e env visible seen x at, seen)
   declared_within {e = e} {visible = visible} {x = x} env seen (new y named) = (named_below e env x y named, seen_one e.names visible x y named seen)
 
   -- the parameters of a call have names in it
-  params_seen : {e g : Env} {visible : List ℕ} {line : ℕ} {params : List VarId} {args : List Expr} {code : List Stmt} → Binds p q e g visible line params args code →
+  params_seen : {e g : Env} {visible : List ℕ} {line : ℕ} {params : List VarId} {args : List Expr} {code : List Stmt} →
+      Binds p q e g visible line params args code →
       (inside : List ℕ) → Seen p inside g.names → Seen p (seen_behind_params inside params) g.names
   params_seen bound inside seen = seen
   params_seen {g = g} (binds {x = x} {y = y} _ _ _ named later) inside seen = params_seen later (x.0 ∷ inside) (seen_one g.names inside x y named seen)
 
-  binds_within : {e g : Env} {visible : List ℕ} {line : ℕ} {params : List VarId} {args : List Expr} {code : List Stmt} → IsEnv p q e → IsEnv p q g → Seen p visible e.names →
+  binds_within : {e g : Env} {visible : List ℕ} {line : ℕ} {params : List VarId} {args : List Expr} {code : List Stmt} → IsEnv p q e → IsEnv p q g →
+      Seen p visible e.names →
       Binds p q e g visible line params args code → all_within count code ≡ true
   binds_within env inner seen bound = refl
   binds_within {e = e} {g = g} {visible = visible} env inner seen (binds {x = x} {a = a} {s = s} {site = site} {y = y} {code = code} is _ knows_a named later) =
-      let here = and_make (nat_lt (target_of g.names x).0 count) (expr_within count (renamed e.names a)) (named_below g inner x y named) (value_within e env visible seen a knows_a) in
-      and_make (stmt_within count s) (all_within count code) (within_head count s (Assign site (target_of g.names x) (renamed e.names a)) is here) (binds_within env inner seen later)
+      let here = and_make (nat_lt (target_of g.names x).0 count) (expr_within count (renamed e.names a)) (named_below g inner x y named)
+      (value_within e env visible seen a knows_a) in
+      and_make (stmt_within count s) (all_within count code) (within_head count s (Assign site (target_of g.names x) (renamed e.names a)) is here)
+      (binds_within env inner seen later)
 
   module _ (globals : (x : VarId) → sees (global_numbers p) x ≡ true → x.0 < file_count p) where
     mutual
-      acts_within : {e : Env} {visible behind : List ℕ} {s t : Stmt} → IsEnv p q e → Seen p visible e.names → Acts p q e visible behind s t → (stmt_within count t ≡ true) × Seen p behind e.names
+      acts_within : {e : Env} {visible behind : List ℕ} {s t : Stmt} → IsEnv p q e → Seen p visible e.names → Acts p q e visible behind s t →
+          (stmt_within count t ≡ true) × Seen p behind e.names
       acts_within {e = e} {visible = visible} {t = t} env seen (assigns {here = here} {x = x} {v = v} _ is _ k declares) =
           let declared = declared_within env seen declares in (
             within_head count t (Assign here (target_of e.names x) (renamed e.names v)) is
@@ -145,9 +154,11 @@ module _ (p q : Program) (files : file_count p ≤ length q.vars) where
             declared.1,
           )
       acts_within {e = e} {visible = visible} {t = t} env seen (stores {here = here} {x = x} {i = i} {v = v} _ is _ j k at) =
-          let values = and_make (expr_within count (renamed e.names i)) (expr_within count (renamed e.names v)) (value_within e env visible seen i j) (value_within e env visible seen v k) in (
+          let values = and_make (expr_within count (renamed e.names i)) (expr_within count (renamed e.names v)) (value_within e env visible seen i j)
+          (value_within e env visible seen v k) in (
             within_head count t (Store here (target_of e.names x) (renamed e.names i) (renamed e.names v)) is
-                (and_make (nat_lt (target_of e.names x).0 count) (expr_within count (renamed e.names i) && expr_within count (renamed e.names v)) (target_below e env visible seen x at) values),
+                (and_make (nat_lt (target_of e.names x).0 count) (expr_within count (renamed e.names i) && expr_within count (renamed e.names v))
+                (target_below e env visible seen x at) values),
             seen,
           )
       acts_within {e = e} {visible = visible} {t = t} env seen (prints {here = here} {v = v} _ is _ k) =
@@ -169,24 +180,31 @@ module _ (p q : Program) (files : file_count p ≤ length q.vars) where
         seen,
       )
 
-      one_within : {e : Env} {visible behind : List ℕ} {s : Stmt} {code : List Stmt} → IsEnv p q e → Seen p visible e.names → One p q e visible behind s code → (all_within count code ≡ true) × Seen p behind e.names
+      one_within : {e : Env} {visible behind : List ℕ} {s : Stmt} {code : List Stmt} → IsEnv p q e → Seen p visible e.names → One p q e visible behind s code →
+          (all_within count code ≡ true) × Seen p behind e.names
       one_within env seen (act {t = t} a) = let made_of = acts_within env seen a in (and_make (stmt_within count t) true made_of.0 refl, made_of.1)
       one_within {e = e} env seen (call {g = g} {f = f} {binding = binding} {body = body} _ inner _ _ pairs inside is) =
           let behind_params = params_seen pairs (global_numbers p) (λ x at. inl (globals x at)) in
           (ap (all_within count) is ∙ within_join count binding body (binds_within env inner seen pairs) (block_within inner behind_params inside), seen)
 
-      inside_within : {e : Env} {visible behind : List ℕ} {s : Stmt} {code : List Stmt} → IsEnv p q e → Seen p visible e.names → Inside p q e visible behind s code → (all_within count code ≡ true) × Seen p behind e.names
+      inside_within : {e : Env} {visible behind : List ℕ} {s : Stmt} {code : List Stmt} → IsEnv p q e → Seen p visible e.names →
+          Inside p q e visible behind s code → (all_within count code ≡ true) × Seen p behind e.names
       inside_within env seen (stays one) = one_within env seen one
-      inside_within {e = e} {visible = visible} env seen (exits {t = t} tries) =
-          (and_make (stmt_within count t) true (within_head count t (Break tries.here (renamed e.names tries.cond)) tries.target (value_within e env visible seen tries.cond tries.known)) refl, seen)
+      inside_within {e = e} {visible = visible} env seen (exits {t = t} tries) = (
+        and_make (stmt_within count t) true (within_head count t (Break tries.here (renamed e.names tries.cond)) tries.target
+            (value_within e env visible seen tries.cond tries.known)) refl,
+        seen,
+      )
 
-      body_within : {e : Env} {visible : List ℕ} {statements code : List Stmt} → IsEnv p q e → Seen p visible e.names → Body p q e visible statements code → all_within count code ≡ true
+      body_within : {e : Env} {visible : List ℕ} {statements code : List Stmt} → IsEnv p q e → Seen p visible e.names → Body p q e visible statements code →
+          all_within count code ≡ true
       body_within env seen finished = refl
       body_within env seen (onward {first = first} {text = text} one rest _ _ is) =
           let here = inside_within env seen one in
           ap (all_within count) is ∙ within_join count first text here.0 (body_within env here.1 rest)
 
-      pub block_within : {e : Env} {visible : List ℕ} {statements code : List Stmt} → IsEnv p q e → Seen p visible e.names → Block p q e visible statements code → all_within count code ≡ true
+      pub block_within : {e : Env} {visible : List ℕ} {statements code : List Stmt} → IsEnv p q e → Seen p visible e.names →
+          Block p q e visible statements code → all_within count code ≡ true
       block_within env seen done = refl
       block_within env seen (more {first = first} {text = text} one rest is) =
           let here = one_within env seen one in
@@ -194,4 +212,5 @@ module _ (p q : Program) (files : file_count p ≤ length q.vars) where
 
 pub expanded_is_within : (p : Program) → IsChecked p → list_all (stmt_within (length (expand p).vars)) (expand p).main ≡ true
 expanded_is_within p checked =
-    block_within p (expand p) ((made p checked).lies.above) (files_below p checked) (main_is_env p checked) (λ x at. inl (files_below p checked x at)) (block p checked)
+    block_within p (expand p) ((made p checked).lies.above) (files_below p checked) (main_is_env p checked)
+    (λ x at. inl (files_below p checked x at)) (block p checked)

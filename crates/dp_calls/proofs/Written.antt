@@ -1,5 +1,6 @@
 -- What a store leaves: the visible variables still hold the same, and nothing of another call is changed.
-use Rattle.std.proofs.Common.{◌≡◌, ◌⊎◌, inl, inr, refl, sym, ap, ◌∙◌, subst, ℕ, ◌+◌, ◌-◌, ◌<◌, ◌≤◌, ◌==◌, Bool, true, false, List, ◌∷◌, ◌++◌, ℤ, pos, length, get_or, Option, Some, slice_set, arith, eqb-true, get_or-set_other, get_or-set_same}
+use Rattle.std.proofs.Common.{◌≡◌, ◌⊎◌, inl, inr, refl, sym, ap, ◌∙◌, subst, ℕ, ◌+◌, ◌-◌, ◌<◌, ◌≤◌, ◌==◌, Bool, true, false, List, ◌∷◌, ◌++◌, ℤ, pos, length}
+use Rattle.std.proofs.Common.{get_or, Option, Some, slice_set, arith, eqb-true, get_or-set_other, get_or-set_same}
 use Rattle.std.proofs.lemmas.Bool.{eqb-false}
 use Rattle.std.proofs.lemmas.List.{length-set, set-append_left, set-append_right}
 use Rattle.dp_base.specs.declared.VarId.{VarId}
@@ -57,7 +58,8 @@ module _ (p q : Program) where
           let right : y - file_count p < length h = omega (arith, at.target_within, at.target_behind, room.1) in
           held y named (get_or-set_same l (x.0 - file_count p) z (pos 0) left ∙ sym (get_or-set_same h (y - file_count p) z (pos 0) right))
 
-      held_other : (w : ℕ) (v : ℕ) → named_in e.names w ≡ Some v → (w ≡ x.0 → ⊥) → get_or l (w - file_count p) (pos 0) ≡ get_or h (v - file_count p) (pos 0) → Held p q e locals_set cells_set w
+      held_other : (w : ℕ) (v : ℕ) → named_in e.names w ≡ Some v → (w ≡ x.0 → ⊥) → get_or l (w - file_count p) (pos 0) ≡ get_or h (v - file_count p) (pos 0) →
+          Held p q e locals_set cells_set w
       held_other w v at differs same =
           let source = env.source w v at in let here = env.source x.0 y named in let target = env.target w v at in
           let there = env.target x.0 y named in
@@ -65,7 +67,8 @@ module _ (p q : Program) where
           let right : (v - file_count p ≡ y - file_count p) → ⊥ = λ k.
           let one : v ≡ y = omega (arith, k, target.0, there.0, env.above) in
           differs (env.apart w x.0 y (at ∙ ap (λ (n : ℕ). Some n) one) named) in
-          held v at (get_or-set_other l (x.0 - file_count p) (w - file_count p) z (pos 0) left ∙ same ∙ sym (get_or-set_other h (y - file_count p) (v - file_count p) z (pos 0) right))
+          held v at (get_or-set_other l (x.0 - file_count p) (w - file_count p) z (pos 0) left ∙ same
+          ∙ sym (get_or-set_other h (y - file_count p) (v - file_count p) z (pos 0) right))
 
       held_by : (w : ℕ) (t : Bool) → (w == x.0) ≡ t → Held p q e l h w → Held p q e locals_set cells_set w
       held_by w true is before = let same : x.0 ≡ w = sym (eqb-true w x.0 is) in subst (λ (n : ℕ). Held p q e locals_set cells_set n) same held_here
@@ -88,7 +91,17 @@ module _ (p q : Program) where
     module _ (visible : List ℕ) (g l h : List ℤ) (whole : length g ≡ global_count p) (room : Room p q l h) (agree : Agree p q e visible l h) where
       -- nothing is stored
       pub unchanged : After e visible h (g ++ l) (g ++ h)
-      unchanged = record { globals = g; locals = l; cells = h; first = refl; second = refl; whole = whole; room = room; agree = agree; keeps = λ j outside. refl }
+      unchanged = record {
+        globals = g;
+        locals = l;
+        cells = h;
+        first = refl;
+        second = refl;
+        whole = whole;
+        room = room;
+        agree = agree;
+        keeps = λ j outside. refl;
+      }
 
       pub file_stored : (x : VarId) (k : ℕ) (z : ℤ) → x.0 < file_count p → k < cell_count p x →
           After e visible h (slice_set (g ++ l) (first_cell p x + k) z) (slice_set (g ++ h) (first_cell q (target_of e.names x) + k) z)
@@ -115,7 +128,8 @@ module _ (p q : Program) where
           let at = own_at p q laid e env x y named in
           let same : first_cell q (target_of e.names x) ≡ first_cell q (record { 0 = y }) = ap (λ (o : Option ℕ). first_cell q (target_or o x.0)) named in
           let here : first_cell p x + k ≡ length g + (x.0 - file_count p) = omega (arith, below, at.count, at.first, at.source_behind, whole) in
-          let there : first_cell q (record { 0 = y }) + k ≡ length g + (y - file_count p) = omega (arith, below, at.count, at.target_first, at.target_behind, whole) in
+          let there : first_cell q (record { 0 = y }) + k ≡ length g + (y - file_count p) = omega
+          (arith, below, at.count, at.target_first, at.target_behind, whole) in
           record {
             globals = g;
             locals = locals_set l h room x y named z;
@@ -132,7 +146,8 @@ module _ (p q : Program) where
           }
 
   -- fewer variables are visible
-  pub fewer : {e : Env} {visible : List ℕ} {h a b : List ℤ} (inner : List ℕ) → ((x : VarId) → sees inner x ≡ true → sees visible x ≡ true) → After e visible h a b → After e inner h a b
+  pub fewer : {e : Env} {visible : List ℕ} {h a b : List ℤ} (inner : List ℕ) → ((x : VarId) → sees inner x ≡ true → sees visible x ≡ true) →
+      After e visible h a b → After e inner h a b
   fewer inner sub r = record {
     globals = r.globals;
     locals = r.locals;

@@ -4,7 +4,8 @@ use Rattle.std.specs.List.{list_any}
 use Rattle.dp_base.specs.declared.SiteId.{SiteId}
 use Rattle.dp_base.specs.declared.VarId.{VarId}
 use Rattle.dp_tree.specs.declared.Expr.{Expr, end_of-Expr, more_of-Expr}
-use Rattle.dp_tree.specs.declared.Expr.TheVariants.{Number, Input, Input', InputLen, Scalar, Element, Element', Unary, Unary', Binary, Binary', And, And', Or, Or'}
+use Rattle.dp_tree.specs.declared.Expr.TheVariants.{Number, Input, Input', InputLen, Scalar, Element, Element', Unary, Unary', Binary, Binary', And, And', Or}
+use Rattle.dp_tree.specs.declared.Expr.TheVariants.{Or'}
 use Rattle.dp_tree.specs.declared.Stmt.{Stmt, Row_of-Stmt, end_of-Stmt, more_of-Stmt}
 use Rattle.dp_tree.specs.declared.Stmt.TheVariants.{Assign, Store, Print, If, If', While, While', Region, Region', Break, Call}
 use Rattle.dp_tree.specs.declared.Program.{Program}

@@ -24,12 +24,12 @@ abbrev pub global_count : Program → ℕ
 global_count p = length (start_cells (globals_in p.vars))
 
 -- the variables of a new frame, in the places of the program's cells behind the file-scope ones
-abbrev pub fresh : Program → List ℤ
-fresh p = replicate (length (start_cells p.vars) - global_count p) (pos 0)
+abbrev pub fresh_frame : Program → List ℤ
+fresh_frame p = replicate (length (start_cells p.vars) - global_count p) (pos 0)
 
 -- a frame that is to do this, with fresh variables
 abbrev pub new_frame : Program → List Stmt → Frame
-new_frame p body = record { to_do = body; locals = fresh p; callee = fresh p }
+new_frame p body = record { to_do = body; locals = fresh_frame p; callee = fresh_frame p }
 
 -- the body that a call without arguments enters; it evaluates nothing itself
 abbrev pub entered : Program → Stmt-F Stmt → Option (List Stmt)
@@ -50,7 +50,8 @@ or_after (Some frames) after below = Some frames
 or_after None after below = after below
 
 -- the same at a statement: a call that evaluates nothing is entered, and `after` gives what comes behind it
-abbrev pub resumed_at : (Frame → List Frame → Option (List Frame)) → Program → Frame → Stmt → List Stmt → (List Frame → Option (List Frame)) → Option (List Stmt) → List Frame → Option (List Frame)
+abbrev pub resumed_at : (Frame → List Frame → Option (List Frame)) → Program → Frame → Stmt → List Stmt → (List Frame → Option (List Frame)) →
+    Option (List Stmt) → List Frame → Option (List Frame)
 resumed_at enter p f s rest after None below = Some (standing_frame p f s rest ∷ below)
 resumed_at enter p f s rest after (Some body) below = or_after (enter (new_frame p body) (record f { to_do = rest } ∷ below)) after below
 
@@ -74,6 +75,6 @@ or_below (Some frames) below = frames
 or_below None below = below
 
 -- Finished frames are given up. A call leads to an earlier function, so calls nest at most as deep as there are functions.
-abbrev pub settled : Program → List Frame → List Frame
-settled p [] = []
-settled p (f ∷ below) = or_below (resumed p (length p.functions) f below) (settled p below)
+abbrev pub frames_settled : Program → List Frame → List Frame
+frames_settled p [] = []
+frames_settled p (f ∷ below) = or_below (resumed p (length p.functions) f below) (frames_settled p below)

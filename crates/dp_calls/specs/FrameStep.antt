@@ -11,7 +11,7 @@ use Rattle.dp_tree.specs.Eval.{Evaluated, eval, first_cell}
 use Rattle.dp_tree.specs.Step.{Step, Finished, Faulted, Stepped, step}
 use Rattle.dp_tree.specs.Trace.{printed_by}
 use Rattle.dp_tree.specs.Functions.{body_in, params_in}
-use Rattle.dp_calls.specs.Frame.{Frame, State, global_count, fresh, new_frame, settled}
+use Rattle.dp_calls.specs.Frame.{Frame, State, global_count, fresh_frame, new_frame, frames_settled}
 
 -- nothing is left to evaluate, the evaluation faults, or the printed value, if any, and what follows
 pub data FrameStep : Type 0 where
@@ -20,8 +20,8 @@ pub data FrameStep : Type 0 where
   Goes : Option ℤ → State → FrameStep
 
 -- what the running frame sees: the file-scope variables and its own
-abbrev pub cells_of : State → Frame → List ℤ
-cells_of c f = c.globals ++ f.locals
+abbrev pub frame_cells : State → Frame → List ℤ
+frame_cells c f = c.globals ++ f.locals
 
 -- a step of the running frame's own
 abbrev pub frame_step : Program → Frame → List Frame → Step → FrameStep
@@ -29,7 +29,7 @@ frame_step p f below Finished = Ends
 frame_step p f below (Faulted fault) = Faults fault
 frame_step p f below (Stepped event c) = Goes (printed_by event.effect) (record {
   globals = take (global_count p) c.cells;
-  frames = settled p (record f { to_do = c.to_do; locals = drop (global_count p) c.cells } ∷ below);
+  frames = frames_settled p (record f { to_do = c.to_do; locals = drop (global_count p) c.cells } ∷ below);
 })
 
 -- the value in the parameter's cell
@@ -44,7 +44,7 @@ bound p params left callee z = bound_to p (slice_get params (length params - suc
 -- the frames after an argument is bound: after the last one the function's body begins
 abbrev pub call_frames : Program → Frame → List Frame → List Stmt → ℕ → ℕ → List Expr → List ℤ → List Frame
 call_frames p f below rest g line [] callee =
-    record (new_frame p (body_in (slice_get p.functions g))) { locals = callee } ∷ record f { to_do = rest; callee = fresh p } ∷ below
+    record (new_frame p (body_in (slice_get p.functions g))) { locals = callee } ∷ record f { to_do = rest; callee = fresh_frame p } ∷ below
 call_frames p f below rest g line (a ∷ args) callee = record f { to_do = tree.Call g line (a ∷ args) ∷ rest; callee = callee } ∷ below
 
 -- the step of an argument; its fault has the line of the call's name
@@ -52,15 +52,15 @@ abbrev pub call_step : Program → State → Frame → List Frame → List Stmt 
 call_step p c f below rest g line args (Err kind) = Faults (record { kind = kind; line = line })
 call_step p c f below rest g line args (Ok v) = Goes None (record {
   globals = c.globals;
-  frames = settled p (call_frames p f below rest g line args
+  frames = frames_settled p (call_frames p f below rest g line args
       (bound p (params_in (slice_get p.functions g)) (length args) f.callee v.value));
 })
 
 -- the step at the head of the running frame
 abbrev pub step_head : Program → List ℤ → State → Frame → List Frame → List Stmt → Stmt-F Stmt → FrameStep
 step_head p input c f below rest (Call g line []) = Ends
-step_head p input c f below rest (Call g line (a ∷ args)) = call_step p c f below rest g line args (eval p input (cells_of c f) a)
-step_head p input c f below rest _ = frame_step p f below (step p input (record { to_do = f.to_do; cells = cells_of c f }))
+step_head p input c f below rest (Call g line (a ∷ args)) = call_step p c f below rest g line args (eval p input (frame_cells c f) a)
+step_head p input c f below rest _ = frame_step p f below (step p input (record { to_do = f.to_do; cells = frame_cells c f }))
 
 -- the same from what the frame has to do
 abbrev pub step_frame : Program → List ℤ → State → Frame → List Frame → List Stmt → FrameStep

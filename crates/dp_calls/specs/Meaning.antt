@@ -4,11 +4,11 @@ use Rattle.dp_tree.specs.declared.Program.{Program}
 use Rattle.dp_tree.specs.Trace.{Run, run_of, begin, prints}
 use Rattle.dp_tree.specs.Iteration.{cells_after}
 use Rattle.dp_calls.specs.Frame.{global_count}
-use Rattle.dp_calls.specs.Frames.{Outcome, outcome}
+use Rattle.dp_calls.specs.Frames.{CallsOutcome, outcome}
 use Rattle.dp_calls.specs.Expand.{expand}
 
 -- the outcome that is read from a run of this program: its last memory begins with the cells of the file-scope variables
-abbrev pub outcome_of_run : Program → Run → Outcome
+abbrev pub outcome_of_run : Program → Run → CallsOutcome
 outcome_of_run q run = record {
   prints = prints run.trace;
   globals = take (global_count q) (cells_after run (length run.trace));

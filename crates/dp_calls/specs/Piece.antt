@@ -15,12 +15,12 @@ abbrev pub nothing : List Renamed → Tables → Piece
 nothing names t = record { code = []; names = names; tables = t }
 
 -- the second piece, with the first one's text before its own
-abbrev pub behind : Piece → Piece → Piece
-behind a b = record b { code = a.code ++ b.code }
+abbrev pub piece_behind : Piece → Piece → Piece
+piece_behind a b = record b { code = a.code ++ b.code }
 
 -- a piece, and the one that goes on from it
 abbrev pub followed_by : Piece → (List Renamed → Tables → Piece) → Piece
-followed_by a next = behind a (next a.names a.tables)
+followed_by a next = piece_behind a (next a.names a.tables)
 
 -- this statement alone
 abbrev pub alone : Stmt → Piece → Piece

@@ -2,7 +2,8 @@
 use Rattle.std.specs.Prelude.{ℕ, ◌==◌, List, [], ◌∷◌, Option, Some, None, if◌then◌else◌}
 use Rattle.dp_base.specs.declared.VarId.{VarId}
 use Rattle.dp_tree.specs.declared.Expr.{Expr, end_of-Expr, more_of-Expr}
-use Rattle.dp_tree.specs.declared.Expr.TheVariants.{Number, Input, Input', InputLen, Scalar, Element, Element', Unary, Unary', Binary, Binary', And, And', Or, Or'}
+use Rattle.dp_tree.specs.declared.Expr.TheVariants.{Number, Input, Input', InputLen, Scalar, Element, Element', Unary, Unary', Binary, Binary', And, And', Or}
+use Rattle.dp_tree.specs.declared.Expr.TheVariants.{Or'}
 
 -- a local or parameter of a function or of `main`, and the variable that stands for it here
 pub record Renamed : Type 0 where

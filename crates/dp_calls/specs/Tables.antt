@@ -40,17 +40,17 @@ abbrev pub with_site : SiteInfo → Tables → Tables
 with_site info t = record t { sites = t.sites ++ info ∷ [] }
 
 -- the site's entry, in region r
-abbrev pub site_in : Option SiteInfo → ℕ → List SiteInfo
-site_in None r = []
-site_in (Some info) r = record info { region = r } ∷ []
+abbrev pub site_entry : Option SiteInfo → ℕ → List SiteInfo
+site_entry None r = []
+site_entry (Some info) r = record info { region = r } ∷ []
 
 -- The next site is this one of the program's text, with its line and kind, in region r.
 abbrev pub with_source_site : Program → ℕ → SiteId → Tables → Tables
-with_source_site p r site t = record t { sites = t.sites ++ site_in (slice_get p.sites (site.0 - 1)) r }
+with_source_site p r site t = record t { sites = t.sites ++ site_entry (slice_get p.sites (site.0 - 1)) r }
 
 -- the number of the next site
-abbrev pub next_site : Tables → SiteId
-next_site t = record { 0 = suc (length t.sites) }
+abbrev pub new_site : Tables → SiteId
+new_site t = record { 0 = suc (length t.sites) }
 
 -- The next region has this line and first site, and ends with the last site so far.
 abbrev pub with_region : ℕ → SiteId → Tables → Tables

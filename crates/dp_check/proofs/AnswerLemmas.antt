@@ -1,9 +1,10 @@
 -- Answers of parts, one after the other; and a loop that answers for a list, item by item.
-use Rattle.std.proofs.Common.{◌≡◌, append_assoc, append-nil, refl, ap, ◌∙◌, List, [], ◌∷◌, ◌++◌, Option, Some, None, Result, Ok, Err, sym, ℕ, ◌+◌, ◌<◌, ◌≤◌, length, get_or, drop}
+use Rattle.std.proofs.Common.{◌≡◌, append_assoc, append-nil, refl, ap, ◌∙◌, List, [], ◌∷◌, ◌++◌, Option, Some, None, Result, Ok, Err, sym, ℕ, ◌+◌, ◌<◌, ◌≤◌}
+use Rattle.std.proofs.Common.{length, get_or, drop}
 use Rattle.dp_check.specs.declared.fail.CheckFail.{CheckFail}
 use Rattle.dp_check.specs.Offence.{Token, offence, first_offence}
 use Rattle.dp_tree.specs.declared.Stmt.{Stmt}
-use Rattle.dp_check.specs.Answer.{answer, onto, with_last, Gives}
+use Rattle.dp_check.specs.Answer.{answer, onto, with_last, GivesChecked}
 use Rattle.std.proofs.lemmas.List.{at_drop_more, at_drop_all}
 use Rattle.std.specs.Option.{option_or}
 
@@ -73,7 +74,8 @@ onto-one done (Ok xs) (Ok x) = ap Ok (Rattle.std.proofs.Common.sym (append_assoc
 onto-one done _ _ = refl
 
 -- an answer of one statement behind those that are done
-pub gives_behind : (r : Result (List Stmt) CheckFail) (done : List Stmt) (one : Result Stmt CheckFail) → Gives r (with_last [] one) → Gives (onto done r) (with_last done one)
+pub gives_behind : (r : Result (List Stmt) CheckFail) (done : List Stmt) (one : Result Stmt CheckFail) → GivesChecked r (with_last [] one) →
+    GivesChecked (onto done r) (with_last done one)
 unfolding onto
 gives_behind r done (Ok x) h = ap (onto done) h
 gives_behind r done (Err e) h = λ other. ap (onto done) (h other)
@@ -97,7 +99,8 @@ module _ {P A X : Type 0} (F : P → List A → Result (List X) CheckFail) (one 
       ∙ onto-more done (one p a) (F (step p a) (drop (i + 1) xs))
 
   -- one more item is done
-  pub loop_more : (a : A) → i < length xs → a ≡ get_or xs i a → (x : X) → one p a ≡ Ok x → (q : P) → q ≡ step p a → whole ≡ onto (done ++ x ∷ []) (F q (drop (i + 1) xs))
+  pub loop_more : (a : A) → i < length xs → a ≡ get_or xs i a → (x : X) → one p a ≡ Ok x → (q : P) → q ≡ step p a →
+      whole ≡ onto (done ++ x ∷ []) (F q (drop (i + 1) xs))
   loop_more a below is x ok q moved =
       turn a below is ∙ ap (λ r. and_then r (λ y. onto (done ++ y ∷ []) (F (step p a) (drop (i + 1) xs)))) ok
       ∙ ap (λ r. onto (done ++ x ∷ []) (F r (drop (i + 1) xs))) (sym moved)
@@ -115,7 +118,8 @@ module _ {P A X : Type 0} (F : P → List A → Result (List X) CheckFail) (one 
       so_far ∙ ap (onto done) (at_drop_more (F p) xs i a below ∙ ap (λ y. F p (y ∷ drop (i + 1) xs)) (sym is) ∙ more p a (drop (i + 1) xs))
       ∙ onto-further done (one p a) (F (step p a) (drop (i + 1) xs))
 
-  pub further : (a : A) → i < length xs → a ≡ get_or xs i a → (all : List X) → onto done (one p a) ≡ Ok all → (q : P) → q ≡ step p a → whole ≡ onto all (F q (drop (i + 1) xs))
+  pub further : (a : A) → i < length xs → a ≡ get_or xs i a → (all : List X) → onto done (one p a) ≡ Ok all → (q : P) → q ≡ step p a →
+      whole ≡ onto all (F q (drop (i + 1) xs))
   further a below is all ok q moved =
       turns a below is ∙ ap (λ r. and_then r (λ y. onto y (F (step p a) (drop (i + 1) xs)))) ok
       ∙ ap (λ r. onto all (F r (drop (i + 1) xs))) (sym moved)
@@ -124,5 +128,6 @@ module _ {P A X : Type 0} (F : P → List A → Result (List X) CheckFail) (one 
   further_refused a below is e err = turns a below is ∙ ap (λ r. and_then r (λ y. onto y (F (step p a) (drop (i + 1) xs)))) err
 
 -- all items are done
-pub loop_end : {P A X : Type 0} (F : P → List A → Result (List X) CheckFail) (xs : List A) (i : ℕ) (p : P) (done : List X) {whole : Result (List X) CheckFail} → whole ≡ onto done (F p (drop i xs)) → length xs ≤ i → F p [] ≡ Ok [] → whole ≡ Ok done
+pub loop_end : {P A X : Type 0} (F : P → List A → Result (List X) CheckFail) (xs : List A) (i : ℕ) (p : P) (done : List X) {whole : Result (List X) CheckFail} →
+    whole ≡ onto done (F p (drop i xs)) → length xs ≤ i → F p [] ≡ Ok [] → whole ≡ Ok done
 loop_end F xs i p done so_far over none = so_far ∙ ap (onto done) (at_drop_all (F p) xs i over ∙ none) ∙ onto-none done

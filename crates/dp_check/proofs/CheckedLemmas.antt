@@ -8,14 +8,14 @@ use Rattle.dp_tree.specs.declared.raw.RawStmt.{RawStmt}
 use Rattle.dp_tree.specs.declared.raw.RawItem.{RawItem}
 use Rattle.dp_tree.specs.declared.raw.RawItem.TheVariants as item
 use Rattle.dp_tree.specs.declared.raw.RawProgram.{RawProgram}
-use Rattle.dp_check.specs.Place.{Part, Site, Local}
+use Rattle.dp_check.specs.Place.{TextPart, Site, Local}
 use Rattle.dp_check.specs.Tables.{laid, locals_of, globals, item_parts, outside, within, top_locals, after_top, main_locals, variables}
 use Rattle.std.proofs.Common.{subst, Option, None, Ok}
 use Rattle.dp_tree.specs.declared.Program.{Program}
 use Rattle.dp_check.specs.declared.fail.CheckFail.{CheckFail}
 use Rattle.dp_check.specs.Offence.{first_offence}
 use Rattle.dp_check.specs.Answer.{unless}
-use Rattle.dp_check.specs.CheckAnswer.{names_of, begin, main_begin, too_many_functions, too_many_cells, resolved, check_answer}
+use Rattle.dp_check.specs.CheckAnswer.{names_of, text_begin, main_begin, too_many_functions, too_many_cells, resolved, check_answer}
 use Rattle.dp_tree.specs.Globals.{is_global_scope}
 use Rattle.dp_tree.specs.Layout.{has_cells, lies_in_order}
 use Rattle.dp_tree.specs.Checked.{IsChecked}
@@ -40,7 +40,7 @@ scope_cells : (scope : VarScope) → (is_global_scope scope || true) ≡ true
 scope_cells Global = refl
 scope_cells _ = refl
 
-locals_have_cells : (scope : VarScope) (ps : List Part) → list_all has_cells (locals_of scope ps) ≡ true
+locals_have_cells : (scope : VarScope) (ps : List TextPart) → list_all has_cells (locals_of scope ps) ≡ true
 locals_have_cells scope [] = refl
 locals_have_cells scope (Site line k ∷ ps) = locals_have_cells scope ps
 locals_have_cells scope (Local name ∷ ps) = both_true (scope_cells scope) (locals_have_cells scope ps)
@@ -48,7 +48,7 @@ locals_have_cells scope (Local name ∷ ps) = both_true (scope_cells scope) (loc
 globals_have_cells : (items : List RawItem) → list_all has_length items ≡ true → list_all has_cells (globals items) ≡ true
 globals_have_cells [] h = refl
 globals_have_cells (item.Scalar name start ∷ items) h = globals_have_cells items h
-globals_have_cells (item.Array name size ∷ items) h = by (nat_lt 0 (Rattle.dp_check.specs.Tables.cells_of size)) h (globals_have_cells items)
+globals_have_cells (item.Array name size ∷ items) h = by (nat_lt 0 (Rattle.dp_check.specs.Tables.cells_in_length size)) h (globals_have_cells items)
   where
     by : (c : Bool) → (c && list_all has_length items) ≡ true → (list_all has_length items ≡ true → list_all has_cells (globals items) ≡ true)
         → ((c && true) && list_all has_cells (globals items)) ≡ true
@@ -60,13 +60,15 @@ main_have_cells : (r : ℕ) (all : List RawStmt) → list_all has_cells (main_lo
 main_have_cells r [] = refl
 main_have_cells r (s ∷ rest) =
     all_of_both has_cells (top_locals r s) (main_locals (after_top r s) rest)
-    (all_of_both has_cells (locals_of Outer (outside s)) (locals_of (Body r) (within s)) (locals_have_cells Outer (outside s)) (locals_have_cells (Body r) (within s)))
+    (all_of_both has_cells (locals_of Outer (outside s)) (locals_of (Body r) (within s)) (locals_have_cells Outer (outside s))
+    (locals_have_cells (Body r) (within s)))
     (main_have_cells (after_top r s) rest)
 
 items_have_cells : (items : List RawItem) → list_all has_cells (flat_map (λ item. locals_of Outer (item_parts item)) items) ≡ true
 items_have_cells [] = refl
 items_have_cells (x ∷ items) =
-    all_of_both has_cells (locals_of Outer (item_parts x)) (flat_map (λ item. locals_of Outer (item_parts item)) items) (locals_have_cells Outer (item_parts x)) (items_have_cells items)
+    all_of_both has_cells (locals_of Outer (item_parts x)) (flat_map (λ item. locals_of Outer (item_parts item)) items) (locals_have_cells Outer (item_parts x))
+    (items_have_cells items)
 
 -- the variables of a checked program lie one after the other
 pub variables_in_order : (raw : RawProgram) → list_all has_length raw.items ≡ true → lies_in_order 0 (variables raw) ≡ true
@@ -94,6 +96,6 @@ checked raw p lengths breaks given =
       sites = sites_in_order raw;
       roles = sites_as_in_text raw;
       regions = regions_stand_in_order (main_begin raw) 1 raw.main fits.0;
-      functions = functions_are_plain (begin raw) raw.items fits.1;
+      functions = functions_are_plain (text_begin raw) raw.items fits.1;
       scoped = resolved_in_scope raw e.0;
     })

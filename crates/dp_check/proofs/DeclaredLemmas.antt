@@ -5,7 +5,7 @@ use Rattle.dp_tree.specs.declared.VarInfo.{VarInfo}
 use Rattle.dp_tree.specs.declared.VarScope.{VarScope}
 use Rattle.dp_tree.specs.declared.VarScope.TheVariants.{Body}
 use Rattle.dp_tree.specs.Scoping.{is_scope_in, is_declared_in}
-use Rattle.dp_check.specs.Place.{Part, Site, Local, local_count}
+use Rattle.dp_check.specs.Place.{TextPart, Site, Local, local_count}
 use Rattle.dp_check.specs.Tables.{laid, locals_of}
 use Rattle.dp_room.proofs.ListLemmas.{get_behind}
 
@@ -26,14 +26,14 @@ module _ (r : ℕ) where
   declared_laid c _ _ = refl
 
   module _ (scope : VarScope) (fits : is_scope_in r scope ≡ true) (later : List VarInfo) where
-    declared_here : (ps : List Part) (j : ℕ) → j < local_count ps → is_declared_in r (slice_get (locals_of scope ps ++ later) j) ≡ true
+    declared_here : (ps : List TextPart) (j : ℕ) → j < local_count ps → is_declared_in r (slice_get (locals_of scope ps ++ later) j) ≡ true
     declared_here [] j h = absurd (omega arith)
     declared_here (Site line k ∷ ps) j h = declared_here ps j h
     declared_here (Local name ∷ ps) zero h = fits
     declared_here (Local name ∷ ps) (suc j) h = declared_here ps j (omega arith)
 
     -- the variables of these parts have the numbers behind those before
-    pub declared_in_table : (before : List VarInfo) (ps : List Part) (k : ℕ) → k ≡ length before
+    pub declared_in_table : (before : List VarInfo) (ps : List TextPart) (k : ℕ) → k ≡ length before
         → Declared (laid 0 (before ++ (locals_of scope ps ++ later))) r k (local_count ps)
     declared_in_table before ps k e j low high =
         let is : j ≡ length before + (j - length before) = omega arith in

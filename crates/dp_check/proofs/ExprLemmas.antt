@@ -16,7 +16,8 @@ use Rattle.dp_check.proofs.AnswerLemmas.{and_then, option_or-None, first_offence
 -- what opens where an expression is made
 unfoldable opened : Unit {0}
 unfolding
-    Rattle.dp_tree.specs.declared.raw.RawExpr.TheBlock.shape-the_row-RawExpr-0 Rattle.dp_tree.specs.declared.raw.RawExpr.TheBlock.hidden-the_row-RawExpr-0 denote.Hole.Carrier.hidden
+    Rattle.dp_tree.specs.declared.raw.RawExpr.TheBlock.shape-the_row-RawExpr-0 Rattle.dp_tree.specs.declared.raw.RawExpr.TheBlock.hidden-the_row-RawExpr-0
+    denote.Hole.Carrier.hidden
 opened = tt
 
 module _ (names : List Named) where
@@ -29,10 +30,12 @@ module _ (names : List Named) where
   answer-Scalar name = ap (λ o. answer o (scalar_expr (named names name.text))) (option_or-None (offence (token names Reads name)))
 
   pub answer-Element : (name : Name) (e : RawExpr) → expr_answer names (raw.Element name e)
-      ≡ and_then (answer (offence (token names ReadsElement name)) (array_of (named names name.text))) (λ a. and_then (expr_answer names e) (λ i. Ok (element_expr a i)))
+      ≡ and_then (answer (offence (token names ReadsElement name)) (array_of (named names name.text)))
+      (λ a. and_then (expr_answer names e) (λ i. Ok (element_expr a i)))
   unfolding expr_answer opened
   answer-Element name e =
-      answer-two (offence (token names ReadsElement name)) (first_offence (expr_tokens names e)) (array_of (named names name.text)) (resolved_expr names e) element_expr
+      answer-two (offence (token names ReadsElement name)) (first_offence (expr_tokens names e)) (array_of (named names name.text))
+      (resolved_expr names e) element_expr
 
   pub answer-Unary : (op : UnOp) (a : RawExpr) → expr_answer names (raw.Unary op a) ≡ and_then (expr_answer names a) (λ x. Ok (tree.Unary op x))
   unfolding expr_answer opened
@@ -45,13 +48,15 @@ module _ (names : List Named) where
       ap (λ o. answer o (tree.Binary op (resolved_expr names a) (resolved_expr names b))) (first_offence-append (expr_tokens names a) (expr_tokens names b))
       ∙ answer-two (first_offence (expr_tokens names a)) (first_offence (expr_tokens names b)) (resolved_expr names a) (resolved_expr names b) (tree.Binary op)
 
-  pub answer-And : (a b : RawExpr) → expr_answer names (raw.And a b) ≡ and_then (expr_answer names a) (λ x. and_then (expr_answer names b) (λ y. Ok (tree.And x y)))
+  pub answer-And : (a b : RawExpr) → expr_answer names (raw.And a b) ≡ and_then (expr_answer names a)
+      (λ x. and_then (expr_answer names b) (λ y. Ok (tree.And x y)))
   unfolding expr_answer opened
   answer-And a b =
       ap (λ o. answer o (tree.And (resolved_expr names a) (resolved_expr names b))) (first_offence-append (expr_tokens names a) (expr_tokens names b))
       ∙ answer-two (first_offence (expr_tokens names a)) (first_offence (expr_tokens names b)) (resolved_expr names a) (resolved_expr names b) tree.And
 
-  pub answer-Or : (a b : RawExpr) → expr_answer names (raw.Or a b) ≡ and_then (expr_answer names a) (λ x. and_then (expr_answer names b) (λ y. Ok (tree.Or x y)))
+  pub answer-Or : (a b : RawExpr) → expr_answer names (raw.Or a b) ≡ and_then (expr_answer names a)
+      (λ x. and_then (expr_answer names b) (λ y. Ok (tree.Or x y)))
   unfolding expr_answer opened
   answer-Or a b =
       ap (λ o. answer o (tree.Or (resolved_expr names a) (resolved_expr names b))) (first_offence-append (expr_tokens names a) (expr_tokens names b))
@@ -66,6 +71,7 @@ module _ (names : List Named) where
   unfolding args_answer expr_answer
   args_answer-more e rest =
       ap (λ o. answer o (resolved_expr names e ∷ map (resolved_expr names) rest)) (first_offence-append (expr_tokens names e) (args_tokens names rest))
-      ∙ answer-two (first_offence (expr_tokens names e)) (first_offence (args_tokens names rest)) (resolved_expr names e) (map (resolved_expr names) rest) (λ x xs. x ∷ xs)
+      ∙ answer-two (first_offence (expr_tokens names e)) (first_offence (args_tokens names rest)) (resolved_expr names e)
+      (map (resolved_expr names) rest) (λ x xs. x ∷ xs)
 
 pub ruleset expr_answers = (answer-Number, answer-Scalar, answer-Element, answer-Unary, answer-Binary, answer-And, answer-Or)

@@ -10,7 +10,7 @@ use Rattle.dp_tree.specs.declared.raw.RawItem.TheVariants as item
 use Rattle.dp_tree.specs.declared.raw.RawProgram.{RawProgram}
 use Rattle.dp_tree.specs.Globals.{is_global_scope, globals_in}
 use Rattle.dp_tree.specs.Layout.{is_local_variable, globals_first}
-use Rattle.dp_check.specs.Place.{Part, Site, Local}
+use Rattle.dp_check.specs.Place.{TextPart, Site, Local}
 use Rattle.dp_check.specs.Tables.{laid, locals_of, globals, item_parts, outside, within, top_locals, after_top, main_locals, variables}
 use Rattle.dp_check.proofs.BoolLemmas.{both_true, all_of_both}
 
@@ -21,18 +21,20 @@ locals_in raw = main_locals 1 raw.main ++ flat_map (λ item. locals_of Outer (it
 pub variables_are : (raw : RawProgram) → variables raw ≡ laid 0 (globals raw.items ++ locals_in raw)
 variables_are raw = ap (laid 0) (append_assoc (globals raw.items) (main_locals 1 raw.main) (flat_map (λ item. locals_of Outer (item_parts item)) raw.items))
 
-locals_are_local : (scope : VarScope) (ps : List Part) → is_global_scope scope ≡ false → list_all is_local_variable (locals_of scope ps) ≡ true
+locals_are_local : (scope : VarScope) (ps : List TextPart) → is_global_scope scope ≡ false → list_all is_local_variable (locals_of scope ps) ≡ true
 locals_are_local scope [] h = refl
 locals_are_local scope (Site line k ∷ ps) h = locals_are_local scope ps h
 locals_are_local scope (Local name ∷ ps) h = both_true (ap Rattle.std.specs.Prelude.not h) (locals_are_local scope ps h)
 
 top_is_local : (r : ℕ) (s : RawStmt) → list_all is_local_variable (top_locals r s) ≡ true
 top_is_local r s =
-    all_of_both is_local_variable (locals_of Outer (outside s)) (locals_of (Body r) (within s)) (locals_are_local Outer (outside s) refl) (locals_are_local (Body r) (within s) refl)
+    all_of_both is_local_variable (locals_of Outer (outside s)) (locals_of (Body r) (within s)) (locals_are_local Outer (outside s) refl)
+    (locals_are_local (Body r) (within s) refl)
 
 main_is_local : (r : ℕ) (all : List RawStmt) → list_all is_local_variable (main_locals r all) ≡ true
 main_is_local r [] = refl
-main_is_local r (s ∷ rest) = all_of_both is_local_variable (top_locals r s) (main_locals (after_top r s) rest) (top_is_local r s) (main_is_local (after_top r s) rest)
+main_is_local r (s ∷ rest) =
+    all_of_both is_local_variable (top_locals r s) (main_locals (after_top r s) rest) (top_is_local r s) (main_is_local (after_top r s) rest)
 
 functions_are_local : (items : List RawItem) → list_all is_local_variable (flat_map (λ item. locals_of Outer (item_parts item)) items) ≡ true
 functions_are_local [] = refl
@@ -42,7 +44,8 @@ functions_are_local (x ∷ items) =
 
 all_local : (raw : RawProgram) → list_all is_local_variable (locals_in raw) ≡ true
 all_local raw =
-    all_of_both is_local_variable (main_locals 1 raw.main) (flat_map (λ item. locals_of Outer (item_parts item)) raw.items) (main_is_local 1 raw.main) (functions_are_local raw.items)
+    all_of_both is_local_variable (main_locals 1 raw.main) (flat_map (λ item. locals_of Outer (item_parts item)) raw.items) (main_is_local 1 raw.main)
+    (functions_are_local raw.items)
 
 laid_is_local : (k : ℕ) (xs : List VarInfo) → list_all is_local_variable (laid k xs) ≡ list_all is_local_variable xs
 laid_is_local k [] = refl
@@ -61,7 +64,7 @@ local_begin k (x ∷ xs) h = by (is_global_scope x.scope) h
 first_of_laid : (k : ℕ) (items : List RawItem) (xs : List VarInfo) → list_all is_local_variable xs ≡ true → globals_first (laid k (globals items ++ xs)) ≡ true
 first_of_laid k [] xs h = local_begin k xs h
 first_of_laid k (item.Scalar name start ∷ items) xs h = first_of_laid (k + 1) items xs h
-first_of_laid k (item.Array name size ∷ items) xs h = first_of_laid (k + Rattle.dp_check.specs.Tables.cells_of size) items xs h
+first_of_laid k (item.Array name size ∷ items) xs h = first_of_laid (k + Rattle.dp_check.specs.Tables.cells_in_length size) items xs h
 first_of_laid k (item.Function name params body ∷ items) xs h = first_of_laid k items xs h
 
 -- the file-scope variables of a resolved program come first
@@ -82,7 +85,7 @@ count_of_laid : (k : ℕ) (items : List RawItem) (xs : List VarInfo) → list_al
     → length (globals_in (laid k (globals items ++ xs))) ≡ length (globals items)
 count_of_laid k [] xs h = none_global k xs h
 count_of_laid k (item.Scalar name start ∷ items) xs h = ap suc (count_of_laid (k + 1) items xs h)
-count_of_laid k (item.Array name size ∷ items) xs h = ap suc (count_of_laid (k + Rattle.dp_check.specs.Tables.cells_of size) items xs h)
+count_of_laid k (item.Array name size ∷ items) xs h = ap suc (count_of_laid (k + Rattle.dp_check.specs.Tables.cells_in_length size) items xs h)
 count_of_laid k (item.Function name params body ∷ items) xs h = count_of_laid k items xs h
 
 -- they are as many as the items declare

@@ -1,5 +1,6 @@
 -- Functions, and items one after the other.
-use Rattle.std.proofs.Common.{◌≡◌, refl, sym, ap, ◌∙◌, ℕ, ◌+◌, ◌≤◌, List, [], ◌∷◌, ◌++◌, map, length, take, append_assoc, append-nil, arith, Option, Some, None, Ok, Err}
+use Rattle.std.proofs.Common.{◌≡◌, refl, sym, ap, ◌∙◌, ℕ, ◌+◌, ◌≤◌, List, [], ◌∷◌, ◌++◌, map, length, take, append_assoc, append-nil, arith, Option, Some, None}
+use Rattle.std.proofs.Common.{Ok, Err}
 use Rattle.std.proofs.lemmas.List.{take_all}
 use Rattle.dp_base.specs.declared.VarId.{VarId}
 use Rattle.std.specs.Option.{option_or}
@@ -13,7 +14,7 @@ use Rattle.dp_check.specs.declared.items.Head.{Head}
 use Rattle.dp_check.specs.declared.place.Place.{Place}
 use Rattle.dp_check.specs.Names.{Named}
 use Rattle.dp_check.specs.Offence.{Declares, offence, first_offence}
-use Rattle.dp_check.specs.Place.{Local, parts_all, local_count, site_count, passed, with_scalar, after_params}
+use Rattle.dp_check.specs.Place.{Local, parts_all, local_count, sites_among, place_passed, with_scalar, after_params}
 use Rattle.dp_check.specs.Tokens.{token, tokens_all, params_tokens}
 use Rattle.dp_check.specs.Resolved.{next_variable, resolved_all, param_variables}
 use Rattle.dp_check.specs.Tables.{function_parts}
@@ -30,7 +31,8 @@ pub params_answer-more : (p : Place) (x : Name) (rest : List Name) →
     params_answer p (x ∷ rest) ≡ and_then (param_answer p x) (λ v. and_then (params_answer (with_scalar p x) rest) (λ vs. Ok (v ∷ vs)))
 unfolding params_answer param_answer
 params_answer-more p x rest =
-    answer-two (offence (token p.names Declares x)) (first_offence (params_tokens (with_scalar p x) rest)) (next_variable p) (param_variables (with_scalar p x) rest) (λ v vs. v ∷ vs)
+    answer-two (offence (token p.names Declares x)) (first_offence (params_tokens (with_scalar p x) rest)) (next_variable p)
+    (param_variables (with_scalar p x) rest) (λ v vs. v ∷ vs)
 
 pub body_answer-is : (p : Place) (params : List Name) (body : List RawStmt) → body_answer p params body
     ≡ and_then (params_answer p params) (λ ps. and_then (block_answer (after_params p params) body) (λ b. Ok (record { params = ps; body = b })))
@@ -45,7 +47,7 @@ pub after_params_variable : (p : Place) (xs : List Name) → (after_params p xs)
 after_params_variable p [] = omega arith
 after_params_variable p (x ∷ xs) = let e = after_params_variable (with_scalar p x) xs in omega arith
 
-pub after_params_site : (p : Place) (xs : List Name) → (after_params p xs).site ≡ p.site + site_count (map Local xs)
+pub after_params_site : (p : Place) (xs : List Name) → (after_params p xs).site ≡ p.site + sites_among (map Local xs)
 after_params_site p [] = omega arith
 after_params_site p (x ∷ xs) = after_params_site (with_scalar p x) xs
 
@@ -58,7 +60,7 @@ after_params_keeps k p (x ∷ xs) h =
 
 -- the place after a function, where its names are given up
 pub function_ends : (p : Place) (params : List Name) (body : List RawStmt) (names : List Named) → names ≡ take (length p.names) (after_params p params).names
-    → record (passed (after_params p params) (parts_all body)) { names = names } ≡ passed p (function_parts params body)
+    → record (place_passed (after_params p params) (parts_all body)) { names = names } ≡ place_passed p (function_parts params body)
 function_ends p params body names is =
     same_place
     (is ∙ (after_params_keeps (length p.names) p params (omega arith)).kept ∙ take_all (length p.names) p.names (omega arith))
@@ -79,18 +81,21 @@ function_answer-is h name params body = by (offence (token h.place.names Declare
 
 pub ruleset function_answers = (function_answer-is)
 
-pub function_answer_at : (h : Head) (name : Name) {ps qs : List Name} {a b : List RawStmt} → ps ≡ qs → a ≡ b → function_answer h name ps a ≡ function_answer h name qs b
+pub function_answer_at : (h : Head) (name : Name) {ps qs : List Name} {a b : List RawStmt} → ps ≡ qs → a ≡ b →
+    function_answer h name ps a ≡ function_answer h name qs b
 function_answer_at h name e f = λ i. function_answer h name (e i) (f i)
 
 module _ (h : Head) (name : Name) (params : List Name) (body : List RawStmt) where
   pub function_lawful : (f : Function) → function_answer h name params body ≡ Ok f →
-      (answer {X = Unit {0}} (first_offence (item_tokens h (item.Function name params body))) tt ≡ Ok tt) × (item_functions h (item.Function name params body) ≡ f ∷ [])
+      (answer {X = Unit {0}} (first_offence (item_tokens h (item.Function name params body))) tt ≡ Ok tt)
+      × (item_functions h (item.Function name params body) ≡ f ∷ [])
   unfolding function_answer
   function_lawful f e =
       let k = answer-Ok (first_offence (item_tokens h (item.Function name params body))) _ f e in
       (ap (λ o. answer {X = Unit {0}} o tt) k.0, ap (λ g. g ∷ []) k.1)
 
-  pub function_refused : (e : CheckFail) → function_answer h name params body ≡ Err e → answer {X = Unit {0}} (first_offence (item_tokens h (item.Function name params body))) tt ≡ Err e
+  pub function_refused : (e : CheckFail) → function_answer h name params body ≡ Err e →
+      answer {X = Unit {0}} (first_offence (item_tokens h (item.Function name params body))) tt ≡ Err e
   unfolding function_answer
   function_refused e p = answer-Err (first_offence (item_tokens h (item.Function name params body))) _ tt e p
 
@@ -104,7 +109,8 @@ pub items_begin : (h : Head) (all : List RawItem) → ItemsSoFar h h [] all all
 items_begin h all = record { offence = refl; functions = refl; head = refl }
 
 module _ {begin now : Head} {done : List Function} {all : List RawItem} where
-  pub items_go_on : (x : RawItem) (rest : List RawItem) → ItemsSoFar begin now done all (x ∷ rest) → answer {X = Unit {0}} (first_offence (item_tokens now x)) tt ≡ Ok tt
+  pub items_go_on : (x : RawItem) (rest : List RawItem) → ItemsSoFar begin now done all (x ∷ rest) →
+      answer {X = Unit {0}} (first_offence (item_tokens now x)) tt ≡ Ok tt
       → ItemsSoFar begin (after_item now x) (done ++ item_functions now x) all rest
   items_go_on x rest so_far lawful =
       let none = (answer-Ok (first_offence (item_tokens now x)) tt tt lawful).0 in

@@ -1,5 +1,6 @@
 -- A lawful tree resolves to a program in scope.
-use Rattle.std.proofs.Common.{◌≡◌, refl, sym, ap, ◌∙◌, subst, ℕ, zero, suc, ◌+◌, ◌≤◌, ◌<◌, ◌==◌, Bool, true, false, not, ◌||◌, List, [], ◌∷◌, ◌++◌, map, length, length-append, append_assoc, append-nil, Some, None, slice_get, nat_lt, arith}
+use Rattle.std.proofs.Common.{◌≡◌, refl, sym, ap, ◌∙◌, subst, ℕ, zero, suc, ◌+◌, ◌≤◌, ◌<◌, ◌==◌, Bool, true, false, not, ◌||◌, List, [], ◌∷◌, ◌++◌, map, length}
+use Rattle.std.proofs.Common.{length-append, append_assoc, append-nil, Some, None, slice_get, nat_lt, arith}
 use Rattle.std.proofs.lemmas.Bool.Decides.{nat_tests}
 use Rattle.std.specs.List.{list_all, flat_map}
 use Rattle.dp_tree.specs.declared.Function.{Function as Callee}
@@ -24,7 +25,7 @@ use Rattle.dp_check.specs.Tokens.{token, tokens_all, params_tokens}
 use Rattle.dp_check.specs.Resolved.{resolved_all, param_variables}
 use Rattle.dp_check.specs.Tables.{laid, locals_of, globals, item_parts, function_parts, top_locals, after_top, main_locals}
 use Rattle.dp_check.specs.Items.{item_tokens, items_tokens, items_functions, after_item, after_items}
-use Rattle.dp_check.specs.CheckAnswer.{begin, main_begin, names_of, resolved}
+use Rattle.dp_check.specs.CheckAnswer.{text_begin, main_begin, names_of, resolved}
 use Rattle.dp_check.proofs.PlaceLemmas.{local_count-append}
 use Rattle.dp_check.proofs.ItemLemmas.{after_params_variable}
 use Rattle.dp_check.proofs.GlobalLemmas.{globals_counted}
@@ -41,7 +42,8 @@ sees_number : (first n k : ℕ) → first ≤ k → k < first + n → sees (numb
 sees_number first zero k low high = absurd (omega arith)
 sees_number first (suc n) k low high = by (first == k) refl (λ (above : first + 1 ≤ k). sees_number (first + 1) n k above (omega arith))
   where
-    by : (b : Bool) → (first == k) ≡ b → (first + 1 ≤ k → sees (numbers_from (first + 1) n) (record { 0 = k }) ≡ true) → (b || sees (numbers_from (first + 1) n) (record { 0 = k })) ≡ true
+    by : (b : Bool) → (first == k) ≡ b → (first + 1 ≤ k → sees (numbers_from (first + 1) n) (record { 0 = k }) ≡ true) →
+        (b || sees (numbers_from (first + 1) n) (record { 0 = k })) ≡ true
     by true e later = refl
     by false e later = later (grind (arith, nat_tests))
 
@@ -63,7 +65,8 @@ length-param_variables q [] = refl
 length-param_variables q (x ∷ params) = ap suc (length-param_variables (with_scalar q x) params)
 
 module _ (p : Program) (n : ℕ) where
-  params_scoped : (q : Place) (params : List Name) (visible : List ℕ) → At p n visible q → Declared p.vars 0 q.variable (local_count (map Local params)) → Params p n visible q params
+  params_scoped : (q : Place) (params : List Name) (visible : List ℕ) → At p n visible q → Declared p.vars 0 q.variable (local_count (map Local params)) →
+      Params p n visible q params
   params_scoped q [] visible here declared = record { scoped = refl; behind = here }
   params_scoped q (x ∷ params) visible here declared =
       let count : suc (local_count (map Local params)) ≡ 1 + local_count (map Local params) = omega arith in
@@ -74,12 +77,14 @@ module _ (p : Program) (n : ℕ) where
         behind = later.behind;
       }
 
-  function_scoped : (q : Place) (params : List Name) (body : List RawStmt) → At p n (global_numbers p) q → Declared p.vars 0 q.variable (local_count (function_parts params body))
+  function_scoped : (q : Place) (params : List Name) (body : List RawStmt) → At p n (global_numbers p) q →
+      Declared p.vars 0 q.variable (local_count (function_parts params body))
       → first_offence (params_tokens q params ++ tokens_all (after_params q params) body) ≡ None
       → function_in_scope p n (record { params = param_variables q params; body = resolved_all (after_params q params) body }) ≡ true
   function_scoped q params body here declared lawful =
       let count = local_count-append (map Local params) (parts_all body) in
-      let first = params_scoped q params (global_numbers p) here (declared_front p.vars 0 q.variable (local_count (map Local params)) (local_count (parts_all body)) _ count declared) in
+      let first = params_scoped q params (global_numbers p) here (declared_front p.vars 0 q.variable (local_count (map Local params))
+      (local_count (parts_all body)) _ count declared) in
       both_true first.scoped
       (all_scoped p 0 n (after_params q params) (seen_behind_params (global_numbers p) (param_variables q params)) body first.behind
       (declared_back p.vars 0 q.variable (local_count (map Local params)) (local_count (parts_all body)) _ _ count (after_params_variable q params) declared)
@@ -116,7 +121,8 @@ module _ (p : Program) (whole : List VarInfo) (table : p.vars ≡ laid 0 whole) 
   global_seen h left e = sees_number 0 (length (globals_in p.vars)) h.globals (omega arith) (omega arith)
 
   -- a function that is called by this name later on
-  function_known : (n : ℕ) (h : Head) (params : List Name) (f : Callee) (done rest : List Callee) → p.functions ≡ done ++ f ∷ rest → h.functions ≡ n → length done ≡ n → length f.params ≡ length params
+  function_known : (n : ℕ) (h : Head) (params : List Name) (f : Callee) (done rest : List Callee) → p.functions ≡ done ++ f ∷ rest → h.functions ≡ n →
+      length done ≡ n → length f.params ≡ length params
       → is_known p (suc n) (global_numbers p) (means.Function h.functions (length params)) ≡ true
   function_known n h params f done rest placed number counted count =
       both_true (here number) (ap (λ m. length params == m) is ∙ same_number (length params))
@@ -143,7 +149,8 @@ module _ (p : Program) (whole : List VarInfo) (table : p.vars ≡ laid 0 whole) 
         variable = here.variable;
         globals_left = (let e : (h.globals + 1) + length (globals rest) ≡ h.globals + suc (length (globals rest)) = omega arith in e ∙ left);
         above = here.above;
-        known = known_append p n (global_numbers p) h.place.names name.text (means.Scalar (record { 0 = h.globals })) here.known (global_seen h (length (globals rest)) left);
+        known = known_append p n (global_numbers p) h.place.names name.text (means.Scalar (record { 0 = h.globals })) here.known
+            (global_seen h (length (globals rest)) left);
       }) l.1 in
       record { functions = later.functions; known = later.known }
   items_scoped h (item.Array name size ∷ rest) n before done here lawful =
@@ -157,7 +164,8 @@ module _ (p : Program) (whole : List VarInfo) (table : p.vars ≡ laid 0 whole) 
         variable = here.variable;
         globals_left = (let e : (h.globals + 1) + length (globals rest) ≡ h.globals + suc (length (globals rest)) = omega arith in e ∙ left);
         above = here.above;
-        known = known_append p n (global_numbers p) h.place.names name.text (means.Array (record { 0 = h.globals })) here.known (global_seen h (length (globals rest)) left);
+        known = known_append p n (global_numbers p) h.place.names name.text (means.Array (record { 0 = h.globals })) here.known
+            (global_seen h (length (globals rest)) left);
       }) l.1 in
       record { functions = later.functions; known = later.known }
   items_scoped h (item.Function name params body ∷ rest) n before done here lawful =
@@ -168,7 +176,11 @@ module _ (p : Program) (whole : List VarInfo) (table : p.vars ≡ laid 0 whole) 
       let declared : Declared p.vars 0 q.variable (local_count mine) =
       subst (λ vars. Declared vars 0 q.variable (local_count mine)) (sym (table ∙ ap (laid 0) here.split))
       (declared_in_table 0 Outer refl (locals_among rest) before mine q.variable here.variable) in
-      let at : At p n (global_numbers p) q = record { known = here.known; below = numbers_below 0 (length (globals_in p.vars)) q.variable (let a = here.above in omega arith) } in
+      let at : At p n (global_numbers p) q = record {
+        known = here.known;
+        below = numbers_below 0 (length (globals_in p.vars)) q.variable (let a = here.above in
+            omega arith);
+      } in
       let later = items_scoped next rest (suc n) (before ++ locals_of Outer mine) (done ++ f ∷ []) (record {
         functions = here.functions ∙ sym (append_assoc done (f ∷ []) (items_functions next rest));
         number = (let e = here.number in omega arith);
@@ -194,10 +206,10 @@ length-main_locals r (s ∷ rest) =
 pub resolved_in_scope : (raw : RawProgram) → first_offence (names_of raw) ≡ None → is_scoped (resolved raw) ≡ true
 resolved_in_scope raw lawful =
     let p = resolved raw in let g = globals raw.items in let m = main_locals 1 raw.main in let f = locals_among raw.items in
-    let l = lawful_parts (items_tokens (begin raw) raw.items) (tokens_all (main_begin raw) raw.main) lawful in
+    let l = lawful_parts (items_tokens (text_begin raw) raw.items) (tokens_all (main_begin raw) raw.main) lawful in
     let counted : length (globals_in p.vars) ≡ length g = globals_counted raw in
-    let variable : (begin raw).place.variable ≡ length (g ++ m) = (λ i. length g + sym (length-main_locals 1 raw.main) i) ∙ sym (length-append g m) in
-    let items = items_scoped p (g ++ m ++ f) refl (begin raw) raw.items 0 (g ++ m) [] (record {
+    let variable : (text_begin raw).place.variable ≡ length (g ++ m) = (λ i. length g + sym (length-main_locals 1 raw.main) i) ∙ sym (length-append g m) in
+    let items = items_scoped p (g ++ m ++ f) refl (text_begin raw) raw.items 0 (g ++ m) [] (record {
       functions = refl;
       number = refl;
       counted = refl;

@@ -1,5 +1,6 @@
 -- Names that mean visible variables and known functions, and the expressions in which they stand.
-use Rattle.std.proofs.Common.{◌≡◌, refl, ap, ◌∙◌, ℕ, suc, ◌==◌, Bool, true, false, ◌&&◌, ◌||◌, if◌then◌else◌, List, [], ◌∷◌, ◌++◌, map, length, Option, Some, None, slice_get, nat_lt, arith}
+use Rattle.std.proofs.Common.{◌≡◌, refl, ap, ◌∙◌, ℕ, suc, ◌==◌, Bool, true, false, ◌&&◌, ◌||◌, if◌then◌else◌, List, [], ◌∷◌, ◌++◌, map, length, Option, Some}
+use Rattle.std.proofs.Common.{None, slice_get, nat_lt, arith}
 use Rattle.std.proofs.lemmas.Bool.Decides.{nat_tests}
 use Rattle.std.specs.List.{list_all}
 use Rattle.dp_base.specs.declared.BinOp.{BinOp}
@@ -36,12 +37,14 @@ abbrev pub all_known : Program → ℕ → List ℕ → List Named → Bool
 all_known p n visible names = list_all (λ (e : Named). is_known p n visible e.meaning) names
 
 -- what a name means is known
-pub found : (p : Program) (n : ℕ) (visible : List ℕ) (names : List Named) (x : List ℕ) → all_known p n visible names ≡ true → is_known_if p n visible (named names x) ≡ true
+pub found : (p : Program) (n : ℕ) (visible : List ℕ) (names : List Named) (x : List ℕ) → all_known p n visible names ≡ true →
+    is_known_if p n visible (named names x) ≡ true
 found p n visible [] x h = refl
 found p n visible (e ∷ names) x h =
     let k = halves (is_known p n visible e.meaning) (all_known p n visible names) h in by (same_name x e.name) k.0 (found p n visible names x k.1)
   where
-    by : (b : Bool) → is_known p n visible e.meaning ≡ true → is_known_if p n visible (named names x) ≡ true → is_known_if p n visible (if b then Some e.meaning else named names x) ≡ true
+    by : (b : Bool) → is_known p n visible e.meaning ≡ true → is_known_if p n visible (named names x) ≡ true →
+        is_known_if p n visible (if b then Some e.meaning else named names x) ≡ true
     by true here later = here
     by false here later = later
 
@@ -67,7 +70,8 @@ abbrev pub seen_behind_all : List ℕ → List Stmt → List ℕ
 seen_behind_all visible [] = visible
 seen_behind_all visible (s ∷ rest) = seen_behind_all (seen_behind visible s) rest
 
-known_behind_one : (p : Program) (n : ℕ) (visible : List ℕ) (names : List Named) (s : Stmt) → all_known p n visible names ≡ true → all_known p n (seen_behind visible s) names ≡ true
+known_behind_one : (p : Program) (n : ℕ) (visible : List ℕ) (names : List Named) (s : Stmt) → all_known p n visible names ≡ true →
+    all_known p n (seen_behind visible s) names ≡ true
 known_behind_one p n visible names (code.Assign site x e) h = by (sees visible x)
   where
     by : (b : Bool) → all_known p n (if b then visible else x.0 ∷ visible) names ≡ true
@@ -77,7 +81,8 @@ known_behind_one p n visible names (code.Store site x index e) h = h
 known_behind_one p n visible names _ h = h
 
 -- what is known stays so behind statements
-pub known_behind : (p : Program) (n : ℕ) (visible : List ℕ) (names : List Named) (all : List Stmt) → all_known p n visible names ≡ true → all_known p n (seen_behind_all visible all) names ≡ true
+pub known_behind : (p : Program) (n : ℕ) (visible : List ℕ) (names : List Named) (all : List Stmt) → all_known p n visible names ≡ true →
+    all_known p n (seen_behind_all visible all) names ≡ true
 known_behind p n visible names [] h = h
 known_behind p n visible names (s ∷ rest) h = known_behind p n (seen_behind visible s) names rest (known_behind_one p n visible names s h)
 
@@ -92,7 +97,8 @@ known_later p n visible (Function f k) h =
     let same = halves (nat_lt f n) (k == length (params_in (slice_get p.functions f))) h in both_true (less_more f n same.0) same.1
 known_later p n visible _ h = h
 
-pub known_append : (p : Program) (n : ℕ) (visible : List ℕ) (names : List Named) (text : List ℕ) (m : Meaning) → all_known p n visible names ≡ true → is_known p n visible m ≡ true
+pub known_append : (p : Program) (n : ℕ) (visible : List ℕ) (names : List Named) (text : List ℕ) (m : Meaning) → all_known p n visible names ≡ true →
+    is_known p n visible m ≡ true
     → all_known p n visible (names ++ record { name = text; meaning = m } ∷ []) ≡ true
 known_append p n visible names text m h here =
     all_of_both (λ (e : Named). is_known p n visible e.meaning) names (record { name = text; meaning = m } ∷ []) h (both_true here refl)
@@ -127,7 +133,8 @@ module _ (p : Program) (n : ℕ) (visible : List ℕ) where
   knows_scalar (Some (Scalar x)) h = h
   knows_scalar _ h = refl
 
-  knows_element : (m : Option Meaning) (e : Expr) → is_known_if p n visible m ≡ true → knows visible e ≡ true → knows visible (element_expr (array_of m) e) ≡ true
+  knows_element : (m : Option Meaning) (e : Expr) → is_known_if p n visible m ≡ true → knows visible e ≡ true →
+      knows visible (element_expr (array_of m) e) ≡ true
   knows_element (Some (Array x)) e h k = knows-Element visible x e ∙ both_true h k
   knows_element _ e h k = knows-Input visible e ∙ k
 

@@ -20,6 +20,7 @@ named-shown x [] = refl
 named-shown x (e ∷ es) = ap (λ r. cond (pointwise nat_eq x e.0.now) (Some e.1) r) (named-shown x es)
 
 pub shown-inserted : {S : Type 0} (m : IndexMap (Bor (List ℕ)) Meaning S) (k : Bor (List ℕ)) (v : Meaning)
-    → named (map shown m.entries) k.now ≡ None → map shown (insert_entry matches m.entries k v) ≡ map shown m.entries ++ record { name = k.now; meaning = v } ∷ []
+    → named (map shown m.entries) k.now ≡ None → map shown (insert_entry matches m.entries k v) ≡ map shown m.entries
+    ++ record { name = k.now; meaning = v } ∷ []
 shown-inserted m k v absent =
     ap (map shown) (insert_entry-new matches m k v (sym (named-shown k.now m.entries) ∙ absent)) ∙ map-append shown m.entries ((k, v) ∷ [])

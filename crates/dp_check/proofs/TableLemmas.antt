@@ -1,5 +1,6 @@
 -- Tables that grow by the parts of statements.
-use Rattle.std.proofs.Common.{◌≡◌, refl, sym, ap, ◌∙◌, ℕ, suc, ◌+◌, Bool, true, List, [], ◌∷◌, ◌++◌, map, length, append_assoc, append-nil, arith, length-append, pos}
+use Rattle.std.proofs.Common.{◌≡◌, refl, sym, ap, ◌∙◌, ℕ, suc, ◌+◌, Bool, true, List, [], ◌∷◌, ◌++◌, map, length, append_assoc, append-nil, arith}
+use Rattle.std.proofs.Common.{length-append, pos}
 use Rattle.std.specs.List.{flat_map}
 use Rattle.dp_tree.specs.declared.VarInfo.{VarInfo}
 use Rattle.dp_tree.specs.declared.VarScope.{VarScope}
@@ -16,8 +17,9 @@ use Rattle.dp_tree.specs.declared.raw.RawStmt.TheOpen.{RawStmt-F}
 use Rattle.dp_tree.specs.declared.raw.RawStmt.TheOpen as open_form
 use Rattle.dp_check.specs.declared.variables.Variables.{Variables}
 use Rattle.dp_check.specs.declared.sites.Sites.{Sites}
-use Rattle.dp_check.specs.Place.{Part, Site, Local, parts, parts_all, site_count, local_count}
-use Rattle.dp_check.specs.Tables.{laid, locals_of, sites_of, loop_parts, outside_at, within_at, outside, within, top_locals, top_sites, after_top, main_locals, main_sites, regions_from, region_of, scalar_info, function_parts}
+use Rattle.dp_check.specs.Place.{TextPart, Site, Local, parts, parts_all, sites_among, local_count}
+use Rattle.dp_check.specs.Tables.{laid, locals_of, sites_made, loop_parts, outside_at, within_at, outside, within, top_locals, top_sites, after_top}
+use Rattle.dp_check.specs.Tables.{main_locals, main_sites, regions_from, region_made, scalar_info, function_parts}
 use Rattle.dp_check.specs.Limits.{cell_sum}
 use Rattle.dp_check.specs.steps.Growing.{with_variables, with_sites, with_top, with_main}
 use Rattle.dp_check.proofs.PlaceLemmas.{opened, parts_hidden, site_count-append, local_count-append}
@@ -26,7 +28,8 @@ pub parts-If : (line : ℕ) (cond : RawExpr) (a b : List RawStmt) → parts (raw
 unfolding opened
 parts-If line cond a b = λ i. Site line kind.If ∷ (parts_hidden a i ++ parts_hidden b i)
 
-pub parts-While : (line : ℕ) (marked : Bool) (cond : RawExpr) (body : List RawStmt) → parts (raw.While line marked cond body) ≡ Site line kind.While ∷ parts_all body
+pub parts-While : (line : ℕ) (marked : Bool) (cond : RawExpr) (body : List RawStmt) →
+    parts (raw.While line marked cond body) ≡ Site line kind.While ∷ parts_all body
 unfolding opened
 parts-While line marked cond body = λ i. Site line kind.While ∷ parts_hidden body i
 
@@ -46,30 +49,31 @@ parts_split s = by (out-RawStmt s) refl
         sym (ap parts is ∙ parts-For line true first cond step body)
     by _ e = append-nil (parts s)
 
-pub locals_of-append : (scope : VarScope) (a b : List Part) → locals_of scope (a ++ b) ≡ locals_of scope a ++ locals_of scope b
+pub locals_of-append : (scope : VarScope) (a b : List TextPart) → locals_of scope (a ++ b) ≡ locals_of scope a ++ locals_of scope b
 locals_of-append scope [] b = refl
 locals_of-append scope (Site line k ∷ a) b = locals_of-append scope a b
 locals_of-append scope (Local name ∷ a) b = ap (λ xs. scalar_info name (pos 0) scope ∷ xs) (locals_of-append scope a b)
 
-pub sites_of-append : (r : ℕ) (a b : List Part) → sites_of r (a ++ b) ≡ sites_of r a ++ sites_of r b
+pub sites_of-append : (r : ℕ) (a b : List TextPart) → sites_made r (a ++ b) ≡ sites_made r a ++ sites_made r b
 sites_of-append r [] b = refl
 sites_of-append r (Site line k ∷ a) b = ap (λ (xs : List SiteInfo). record { line = line; kind = k; region = r } ∷ xs) (sites_of-append r a b)
 sites_of-append r (Local name ∷ a) b = sites_of-append r a b
 
-pub length-sites_of : (r : ℕ) (a : List Part) → length (sites_of r a) ≡ site_count a
+pub length-sites_of : (r : ℕ) (a : List TextPart) → length (sites_made r a) ≡ sites_among a
 length-sites_of r [] = refl
 length-sites_of r (Site line k ∷ a) = ap suc (length-sites_of r a)
 length-sites_of r (Local name ∷ a) = length-sites_of r a
 
-pub site_count-split : (s : RawStmt) → site_count (outside s) + site_count (within s) ≡ site_count (parts s)
-site_count-split s = sym (site_count-append (outside s) (within s)) ∙ ap site_count (parts_split s)
+pub site_count-split : (s : RawStmt) → sites_among (outside s) + sites_among (within s) ≡ sites_among (parts s)
+site_count-split s = sym (site_count-append (outside s) (within s)) ∙ ap sites_among (parts_split s)
 
 pub local_count-split : (s : RawStmt) → local_count (outside s) + local_count (within s) ≡ local_count (parts s)
 local_count-split s = sym (local_count-append (outside s) (within s)) ∙ ap local_count (parts_split s)
 
-pub length-top_sites : (r : ℕ) (s : RawStmt) → length (top_sites r s) ≡ site_count (parts s)
+pub length-top_sites : (r : ℕ) (s : RawStmt) → length (top_sites r s) ≡ sites_among (parts s)
 length-top_sites r s =
-    length-append (sites_of 0 (outside s)) (sites_of r (within s)) ∙ (λ i. length-sites_of 0 (outside s) i + length-sites_of r (within s) i) ∙ site_count-split s
+    length-append (sites_made 0 (outside s)) (sites_made r (within s)) ∙ (λ i. length-sites_of 0 (outside s) i + length-sites_of r (within s) i)
+    ∙ site_count-split s
 
 -- ---- variables
 
@@ -113,10 +117,10 @@ with_main-none t r = same_sites t (append-nil t.rows) (append-nil t.regions) (om
 pub with_main-more : (t : Sites) (r : ℕ) (s : RawStmt) (rest : List RawStmt) → with_main t r (s ∷ rest) ≡ with_main (with_top t r s) (after_top r s) rest
 with_main-more t r s rest =
     let here = top_sites r s in let later = main_sites (after_top r s) rest in
-    let n : t.next + site_count (parts s) ≡ t.next + length here = ap (λ k. t.next + k) (sym (length-top_sites r s)) in
+    let n : t.next + sites_among (parts s) ≡ t.next + length here = ap (λ k. t.next + k) (sym (length-top_sites r s)) in
     same_sites t (sym (append_assoc t.rows here later))
-    (ap (λ k. t.regions ++ (region_of t.next (out-RawStmt s) (parts s) ++ regions_from k rest)) n
-    ∙ sym (append_assoc t.regions (region_of t.next (out-RawStmt s) (parts s)) (regions_from (t.next + length here) rest)))
+    (ap (λ k. t.regions ++ (region_made t.next (out-RawStmt s) (parts s) ++ regions_from k rest)) n
+    ∙ sym (append_assoc t.regions (region_made t.next (out-RawStmt s) (parts s)) (regions_from (t.next + length here) rest)))
     (let e = length-append here later in omega arith)
 
 -- ---- each form of statement
@@ -128,51 +132,58 @@ module _ (v : Variables) (scope : VarScope) where
       ap (λ ps. with_variables v (locals_of scope ps)) (parts-If line cond a b) ∙ ap (with_variables v) (locals_of-append scope (parts_all a) (parts_all b))
       ∙ with_variables-append v (locals_of scope (parts_all a)) (locals_of scope (parts_all b))
 
-  pub local-While : (line : ℕ) (marked : Bool) (cond : RawExpr) (body : List RawStmt) → with_variables v (locals_of scope (parts (raw.While line marked cond body)))
+  pub local-While : (line : ℕ) (marked : Bool) (cond : RawExpr) (body : List RawStmt) →
+      with_variables v (locals_of scope (parts (raw.While line marked cond body)))
       ≡ with_variables v (locals_of scope (parts_all body))
   local-While line marked cond body = ap (λ ps. with_variables v (locals_of scope ps)) (parts-While line marked cond body)
 
   pub local-For : (line : ℕ) (marked : Bool) (first : List RawStmt) (cond : RawExpr) (step body : List RawStmt)
       → with_variables v (locals_of scope (parts (raw.For line marked first cond step body)))
-      ≡ with_variables (with_variables (with_variables v (locals_of scope (parts_all first))) (locals_of scope (parts_all body))) (locals_of scope (parts_all step))
+      ≡ with_variables (with_variables (with_variables v (locals_of scope (parts_all first))) (locals_of scope (parts_all body)))
+      (locals_of scope (parts_all step))
   local-For line marked first cond step body =
       let a = locals_of scope (parts_all first) in let b = locals_of scope (parts_all body) in let c = locals_of scope (parts_all step) in
       ap (λ ps. with_variables v (locals_of scope ps)) (parts-For line marked first cond step body)
-      ∙ ap (with_variables v) (locals_of-append scope (parts_all first) (loop_parts line step body) ∙ ap (λ xs. a ++ xs) (locals_of-append scope (parts_all body) (parts_all step)))
+      ∙ ap (with_variables v) (locals_of-append scope (parts_all first) (loop_parts line step body)
+      ∙ ap (λ xs. a ++ xs) (locals_of-append scope (parts_all body) (parts_all step)))
       ∙ with_variables-append v a (b ++ c) ∙ with_variables-append (with_variables v a) b c
 
 pub ruleset local_forms = (local-If, local-While, local-For, with_variables-none)
 
 -- the sites of a loop's condition and body, and those of its step
-pub turn_sites : (t : Sites) (r line : ℕ) (body : List RawStmt) → with_sites t (sites_of r (Site line kind.While ∷ parts_all body))
-    ≡ with_sites (with_sites t (record { line = line; kind = kind.While; region = r } ∷ [])) (sites_of r (parts_all body))
-turn_sites t r line body = with_sites-append t (record { line = line; kind = kind.While; region = r } ∷ []) (sites_of r (parts_all body))
+pub turn_sites : (t : Sites) (r line : ℕ) (body : List RawStmt) → with_sites t (sites_made r (Site line kind.While ∷ parts_all body))
+    ≡ with_sites (with_sites t (record { line = line; kind = kind.While; region = r } ∷ [])) (sites_made r (parts_all body))
+turn_sites t r line body = with_sites-append t (record { line = line; kind = kind.While; region = r } ∷ []) (sites_made r (parts_all body))
 
-pub loop_sites : (t : Sites) (r line : ℕ) (step body : List RawStmt) → with_sites t (sites_of r (loop_parts line step body))
-    ≡ with_sites (with_sites t (sites_of r (Site line kind.While ∷ parts_all body))) (sites_of r (parts_all step))
+pub loop_sites : (t : Sites) (r line : ℕ) (step body : List RawStmt) → with_sites t (sites_made r (loop_parts line step body))
+    ≡ with_sites (with_sites t (sites_made r (Site line kind.While ∷ parts_all body))) (sites_made r (parts_all step))
 loop_sites t r line step body =
-    ap (with_sites t) (sites_of-append r (Site line kind.While ∷ parts_all body) (parts_all step)) ∙ with_sites-append t (sites_of r (Site line kind.While ∷ parts_all body)) (sites_of r (parts_all step))
+    ap (with_sites t) (sites_of-append r (Site line kind.While ∷ parts_all body) (parts_all step))
+    ∙ with_sites-append t (sites_made r (Site line kind.While ∷ parts_all body)) (sites_made r (parts_all step))
 
 module _ (t : Sites) (r : ℕ) where
-  pub site-If : (line : ℕ) (cond : RawExpr) (a b : List RawStmt) → with_sites t (sites_of r (parts (raw.If line cond a b)))
-      ≡ with_sites (with_sites (with_sites t (record { line = line; kind = kind.If; region = r } ∷ [])) (sites_of r (parts_all a))) (sites_of r (parts_all b))
+  pub site-If : (line : ℕ) (cond : RawExpr) (a b : List RawStmt) → with_sites t (sites_made r (parts (raw.If line cond a b)))
+      ≡ with_sites (with_sites (with_sites t (record { line = line; kind = kind.If; region = r } ∷ [])) (sites_made r (parts_all a)))
+      (sites_made r (parts_all b))
   site-If line cond a b =
       let one : List SiteInfo = record { line = line; kind = kind.If; region = r } ∷ [] in
-      ap (λ ps. with_sites t (sites_of r ps)) (parts-If line cond a b) ∙ ap (λ xs. with_sites t (one ++ xs)) (sites_of-append r (parts_all a) (parts_all b))
-      ∙ with_sites-append t one (sites_of r (parts_all a) ++ sites_of r (parts_all b))
-      ∙ with_sites-append (with_sites t one) (sites_of r (parts_all a)) (sites_of r (parts_all b))
+      ap (λ ps. with_sites t (sites_made r ps)) (parts-If line cond a b) ∙ ap (λ xs. with_sites t (one ++ xs)) (sites_of-append r (parts_all a) (parts_all b))
+      ∙ with_sites-append t one (sites_made r (parts_all a) ++ sites_made r (parts_all b))
+      ∙ with_sites-append (with_sites t one) (sites_made r (parts_all a)) (sites_made r (parts_all b))
 
-  pub site-While : (line : ℕ) (marked : Bool) (cond : RawExpr) (body : List RawStmt) → with_sites t (sites_of r (parts (raw.While line marked cond body)))
-      ≡ with_sites t (sites_of r (Site line kind.While ∷ parts_all body))
-  site-While line marked cond body = ap (λ ps. with_sites t (sites_of r ps)) (parts-While line marked cond body)
+  pub site-While : (line : ℕ) (marked : Bool) (cond : RawExpr) (body : List RawStmt) → with_sites t (sites_made r (parts (raw.While line marked cond body)))
+      ≡ with_sites t (sites_made r (Site line kind.While ∷ parts_all body))
+  site-While line marked cond body = ap (λ ps. with_sites t (sites_made r ps)) (parts-While line marked cond body)
 
-  pub site-For : (line : ℕ) (marked : Bool) (first : List RawStmt) (cond : RawExpr) (step body : List RawStmt) → with_sites t (sites_of r (parts (raw.For line marked first cond step body)))
-      ≡ with_sites (with_sites (with_sites t (sites_of r (parts_all first))) (sites_of r (Site line kind.While ∷ parts_all body))) (sites_of r (parts_all step))
+  pub site-For : (line : ℕ) (marked : Bool) (first : List RawStmt) (cond : RawExpr) (step body : List RawStmt) →
+      with_sites t (sites_made r (parts (raw.For line marked first cond step body)))
+      ≡ with_sites (with_sites (with_sites t (sites_made r (parts_all first))) (sites_made r (Site line kind.While ∷ parts_all body)))
+      (sites_made r (parts_all step))
   site-For line marked first cond step body =
-      let a = sites_of r (parts_all first) in
-      ap (λ ps. with_sites t (sites_of r ps)) (parts-For line marked first cond step body)
+      let a = sites_made r (parts_all first) in
+      ap (λ ps. with_sites t (sites_made r ps)) (parts-For line marked first cond step body)
       ∙ ap (with_sites t) (sites_of-append r (parts_all first) (loop_parts line step body))
-      ∙ with_sites-append t a (sites_of r (loop_parts line step body)) ∙ loop_sites (with_sites t a) r line step body
+      ∙ with_sites-append t a (sites_made r (loop_parts line step body)) ∙ loop_sites (with_sites t a) r line step body
 
 pub ruleset site_forms = (site-If, site-While, site-For, with_sites-none)
 
@@ -180,16 +191,20 @@ pub ruleset site_forms = (site-If, site-While, site-For, with_sites-none)
 
 pub locals_more : (scope : VarScope) (v : Variables) (s : RawStmt) (rest : List RawStmt) → with_variables v (locals_of scope (parts_all (s ∷ rest)))
     ≡ with_variables (with_variables v (locals_of scope (parts s))) (locals_of scope (parts_all rest))
-locals_more scope v s rest = ap (with_variables v) (locals_of-append scope (parts s) (parts_all rest)) ∙ with_variables-append v (locals_of scope (parts s)) (locals_of scope (parts_all rest))
+locals_more scope v s rest = ap (with_variables v) (locals_of-append scope (parts s) (parts_all rest)) ∙ with_variables-append v (locals_of scope (parts s))
+    (locals_of scope (parts_all rest))
 
-pub sites_more : (r : ℕ) (t : Sites) (s : RawStmt) (rest : List RawStmt) → with_sites t (sites_of r (parts_all (s ∷ rest)))
-    ≡ with_sites (with_sites t (sites_of r (parts s))) (sites_of r (parts_all rest))
-sites_more r t s rest = ap (with_sites t) (sites_of-append r (parts s) (parts_all rest)) ∙ with_sites-append t (sites_of r (parts s)) (sites_of r (parts_all rest))
+pub sites_more : (r : ℕ) (t : Sites) (s : RawStmt) (rest : List RawStmt) → with_sites t (sites_made r (parts_all (s ∷ rest)))
+    ≡ with_sites (with_sites t (sites_made r (parts s))) (sites_made r (parts_all rest))
+sites_more r t s rest =
+    ap (with_sites t) (sites_of-append r (parts s) (parts_all rest)) ∙ with_sites-append t (sites_made r (parts s)) (sites_made r (parts_all rest))
 
-pub flat_more : {A : Type 0} (g : A → List VarInfo) (v : Variables) (x : A) (rest : List A) → with_variables v (flat_map g (x ∷ rest)) ≡ with_variables (with_variables v (g x)) (flat_map g rest)
+pub flat_more : {A : Type 0} (g : A → List VarInfo) (v : Variables) (x : A) (rest : List A) → with_variables v (flat_map g (x ∷ rest)) ≡ with_variables
+    (with_variables v (g x)) (flat_map g rest)
 flat_more g v x rest = with_variables-append v (g x) (flat_map g rest)
 
-pub flat_sites_more : {A : Type 0} (g : A → List SiteInfo) (t : Sites) (x : A) (rest : List A) → with_sites t (flat_map g (x ∷ rest)) ≡ with_sites (with_sites t (g x)) (flat_map g rest)
+pub flat_sites_more : {A : Type 0} (g : A → List SiteInfo) (t : Sites) (x : A) (rest : List A) →
+    with_sites t (flat_map g (x ∷ rest)) ≡ with_sites (with_sites t (g x)) (flat_map g rest)
 flat_sites_more g t x rest = with_sites-append t (g x) (flat_map g rest)
 
 pub params_more : (v : Variables) (x : Name) (rest : List Name) → with_variables v (locals_of Outer (map Local (x ∷ rest)))
@@ -199,9 +214,10 @@ params_more v x rest = with_variables-append v (scalar_info x (pos 0) Outer ∷ 
 pub function_variables : (v : Variables) (params : List Name) (body : List RawStmt) → with_variables v (locals_of Outer (function_parts params body))
     ≡ with_variables (with_variables v (locals_of Outer (map Local params))) (locals_of Outer (parts_all body))
 function_variables v params body =
-    ap (with_variables v) (locals_of-append Outer (map Local params) (parts_all body)) ∙ with_variables-append v (locals_of Outer (map Local params)) (locals_of Outer (parts_all body))
+    ap (with_variables v) (locals_of-append Outer (map Local params) (parts_all body)) ∙ with_variables-append v (locals_of Outer (map Local params))
+    (locals_of Outer (parts_all body))
 
-pub function_sites : (params : List Name) (body : List RawStmt) → sites_of 0 (function_parts params body) ≡ sites_of 0 (parts_all body)
+pub function_sites : (params : List Name) (body : List RawStmt) → sites_made 0 (function_parts params body) ≡ sites_made 0 (parts_all body)
 function_sites [] body = refl
 function_sites (x ∷ params) body = function_sites params body
 

@@ -1,5 +1,6 @@
 -- Names of a lawful text: what they mean where they are visible.
-use Rattle.std.proofs.Common.{◌≡◌, refl, sym, ap, ◌∙◌, ℕ, ◌+◌, ◌≤◌, ◌==◌, Bool, true, false, not, ◌||◌, if◌then◌else◌, List, [], ◌∷◌, ◌++◌, length, Option, Some, None, slice_get, nat_lt, arith}
+use Rattle.std.proofs.Common.{◌≡◌, refl, sym, ap, ◌∙◌, ℕ, ◌+◌, ◌≤◌, ◌==◌, Bool, true, false, not, ◌||◌, if◌then◌else◌, List, [], ◌∷◌, ◌++◌, length, Option}
+use Rattle.std.proofs.Common.{Some, None, slice_get, nat_lt, arith}
 use Rattle.std.proofs.lemmas.Bool.Decides.{nat_tests}
 use Rattle.std.specs.List.{list_all}
 use Rattle.std.specs.Option.{option_or}
@@ -12,7 +13,7 @@ use Rattle.dp_check.specs.declared.names.Meaning.{Meaning}
 use Rattle.dp_check.specs.declared.names.Meaning.TheVariants.{Scalar, Array, Function}
 use Rattle.dp_check.specs.declared.place.Place.{Place}
 use Rattle.dp_check.specs.Offence.{Token, Assigns, AssignsElement, Calls, offence, offence_of, first_offence}
-use Rattle.dp_check.specs.Place.{Part, local_count, passed, with_scalar}
+use Rattle.dp_check.specs.Place.{TextPart, local_count, place_passed, with_scalar}
 use Rattle.dp_check.specs.Resolved.{variable_of, function_of, next_variable}
 use Rattle.dp_check.proofs.AnswerLemmas.{first_offence-append}
 use Rattle.dp_check.proofs.BoolLemmas.{both_true, halves, all_weaker}
@@ -50,7 +51,7 @@ unseen v (y ∷ visible) h =
     differs e = grind (arith, nat_tests)
 
 module _ {p : Program} {n : ℕ} {visible : List ℕ} {q : Place} where
-  pub at_passed : (ps : List Part) → At p n visible q → At p n visible (passed q ps)
+  pub at_passed : (ps : List TextPart) → At p n visible q → At p n visible (place_passed q ps)
   at_passed ps here = record { known = here.known; below = below_still q.variable (q.variable + local_count ps) (omega arith) visible here.below }
 
   -- behind a declaration its variable is visible, too

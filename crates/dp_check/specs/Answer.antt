@@ -12,9 +12,10 @@ use Rattle.dp_check.specs.declared.fail.CheckFail.TheVariants.{NoMemory}
 use Rattle.dp_check.specs.declared.place.Place.{Place}
 use Rattle.dp_check.specs.Names.{Named}
 use Rattle.dp_check.specs.Offence.{Declares, offence, first_offence}
-use Rattle.dp_check.specs.Place.{after_params, parts_all, passed, sited}
+use Rattle.dp_check.specs.Place.{after_params, parts_all, place_passed, sited}
 use Rattle.dp_check.specs.Tokens.{token, expr_tokens, args_tokens, tokens, tokens_all, params_tokens}
-use Rattle.dp_check.specs.Resolved.{resolved_expr, resolved, resolved_all, with_step, stepped_region, resolved_top, resolved_main, param_variables, next_variable}
+use Rattle.dp_check.specs.Resolved.{resolved_expr, resolved, resolved_all, with_loop_step, stepped_region, resolved_top, resolved_main, param_variables}
+use Rattle.dp_check.specs.Resolved.{next_variable}
 
 -- the answer, unless this cause for a refusal stands
 abbrev pub unless : {X : Type 0} → Option CheckFail → Result X CheckFail → Result X CheckFail
@@ -41,9 +42,9 @@ with_all done (Ok _) = Ok done
 with_all done (Err e) = Err e
 
 -- the outcome is the expected one; that memory was wanting says nothing
-abbrev pub Gives : {X : Type 0} → Result X CheckFail → Result X CheckFail → Type 0
-Gives expected (Ok x) = expected ≡ Ok x
-Gives expected (Err e) = e ≢ NoMemory → expected ≡ Err e
+abbrev pub GivesChecked : {X : Type 0} → Result X CheckFail → Result X CheckFail → Type 0
+GivesChecked expected (Ok x) = expected ≡ Ok x
+GivesChecked expected (Err e) = e ≢ NoMemory → expected ≡ Err e
 
 -- what is answered for an expression where these names are visible
 unfoldable pub expr_answer : List Named → RawExpr → Result Expr CheckFail
@@ -63,12 +64,13 @@ block_answer p all = answer (first_offence (tokens_all p all)) (resolved_all p a
 
 -- what is answered for the body and the step of a loop, from the place behind its condition: the step is read first
 unfoldable pub loop_answer : Place → List RawStmt → List RawStmt → Result (List Stmt) CheckFail
-loop_answer p step body = answer (first_offence (tokens_all (passed p (parts_all body)) step ++ tokens_all p body)) (with_step p step body)
+loop_answer p step body = answer (first_offence (tokens_all (place_passed p (parts_all body)) step ++ tokens_all p body)) (with_loop_step p step body)
 
 -- what is answered for a region whose body ends with a step, where region r is the next one
 unfoldable pub stepped_answer : Place → ℕ → RawExpr → List RawStmt → List RawStmt → Result Stmt CheckFail
 stepped_answer p r cond step body =
-    answer (first_offence (expr_tokens p.names cond ++ (tokens_all (passed (sited p) (parts_all body)) step ++ tokens_all (sited p) body))) (stepped_region p r cond step body)
+    answer (first_offence (expr_tokens p.names cond ++ (tokens_all (place_passed (sited p) (parts_all body)) step ++ tokens_all (sited p) body)))
+    (stepped_region p r cond step body)
 
 -- what is answered for a statement at the top of `main`, where region r is the next one
 unfoldable pub top_answer : Place → ℕ → RawStmt → Result (List Stmt) CheckFail

@@ -7,12 +7,12 @@ use Rattle.dp_tree.specs.declared.raw.RawProgram.{RawProgram}
 use Rattle.dp_tree.specs.declared.raw.RawStmt.{RawStmt, Row_of-RawStmt, end_of-RawStmt, more_of-RawStmt, out-RawStmt}
 use Rattle.dp_tree.specs.declared.raw.RawStmt.TheVariants.{Declare, Assign, Store, Call, Print, If', While', For', Break}
 use Rattle.dp_tree.specs.declared.raw.RawStmt.TheOpen as open_form
-use Rattle.dp_check.specs.Tables.{cells_of}
+use Rattle.dp_check.specs.Tables.{cells_in_length}
 
 -- an array has an element at least; the grammar has no other
 abbrev pub has_length : RawItem → Bool
 has_length (Scalar name start) = true
-has_length (Array name size) = nat_lt 0 (cells_of size)
+has_length (Array name size) = nat_lt 0 (cells_in_length size)
 has_length (Callee name params body) = true
 
 abbrev mutual

@@ -8,7 +8,7 @@ use Rattle.dp_tree.specs.declared.raw.RawItem.TheVariants.{Scalar, Array, Functi
 use Rattle.dp_check.specs.declared.items.Head.{Head}
 use Rattle.dp_check.specs.declared.names.Meaning.TheVariants as means
 use Rattle.dp_check.specs.Offence.{Token, Declares, first_offence}
-use Rattle.dp_check.specs.Place.{passed, with_name, after_params}
+use Rattle.dp_check.specs.Place.{place_passed, with_name, after_params}
 use Rattle.dp_check.specs.Tokens.{token, tokens_all, params_tokens}
 use Rattle.dp_check.specs.Resolved.{resolved_all, param_variables}
 use Rattle.dp_check.specs.Answer.{answer}
@@ -27,7 +27,7 @@ with_array h name = record h { globals = h.globals + 1; place = with_name h.plac
 abbrev pub with_function : Head → Name → List Name → List RawStmt → Head
 with_function h name params body = record h {
   functions = h.functions + 1;
-  place = with_name (passed h.place (function_parts params body)) name (means.Function h.functions (length params));
+  place = with_name (place_passed h.place (function_parts params body)) name (means.Function h.functions (length params));
 }
 
 -- the place after an item

@@ -24,20 +24,20 @@ pub data Mark : Type 0 where
 
 -- The names that are visible behind marks, the nearest mark first, where the next d blocks that open have been closed: each
 -- declaration that stands in none of those blocks counts.
-abbrev pub seen : ℕ → List Mark → List Named
-seen d [] = predeclared
-seen d (Writes purpose name ∷ before) = seen d before
-seen zero (Declared name meaning ∷ before) = seen zero before ++ record { name = name.text; meaning = meaning } ∷ []
-seen (suc d) (Declared name meaning ∷ before) = seen (suc d) before
-seen zero (Opens ∷ before) = seen zero before
-seen (suc d) (Opens ∷ before) = seen d before
-seen d (Closes ∷ before) = seen (suc d) before
+abbrev pub names_seen : ℕ → List Mark → List Named
+names_seen d [] = predeclared
+names_seen d (Writes purpose name ∷ before) = names_seen d before
+names_seen zero (Declared name meaning ∷ before) = names_seen zero before ++ record { name = name.text; meaning = meaning } ∷ []
+names_seen (suc d) (Declared name meaning ∷ before) = names_seen (suc d) before
+names_seen zero (Opens ∷ before) = names_seen zero before
+names_seen (suc d) (Opens ∷ before) = names_seen d before
+names_seen d (Closes ∷ before) = names_seen (suc d) before
 
 -- the names of a text in their order, each with what is visible behind the marks before it, the nearest mark first
 abbrev pub read_off : List Mark → List Mark → List Token
 read_off before [] = []
 read_off before (Writes purpose name ∷ rest) =
-    record { name = name; purpose = purpose; visible = seen zero before } ∷ read_off (Writes purpose name ∷ before) rest
+    record { name = name; purpose = purpose; visible = names_seen zero before } ∷ read_off (Writes purpose name ∷ before) rest
 read_off before (Declared name meaning ∷ rest) = read_off (Declared name meaning ∷ before) rest
 read_off before (Opens ∷ rest) = read_off (Opens ∷ before) rest
 read_off before (Closes ∷ rest) = read_off (Closes ∷ before) rest
@@ -79,7 +79,8 @@ abbrev mutual
   marks next (While' line marked cond _ body) = expr_marks cond ++ block (marks_in next body)
   marks next (For' line marked _ first cond _ step _ body) =
       block (marks_in next first ++ (expr_marks cond
-      ++ (block (marks_in ((next + local_count (parts_in first)) + local_count (parts_in body)) step) ++ block (marks_in (next + local_count (parts_in first)) body))))
+      ++ (block (marks_in ((next + local_count (parts_in first)) + local_count (parts_in body)) step)
+      ++ block (marks_in (next + local_count (parts_in first)) body))))
   marks next (Break line cond) = expr_marks cond
 
   -- the same of the statements of a block

@@ -10,13 +10,13 @@ use Rattle.dp_check.specs.declared.names.Meaning.TheVariants.{Scalar}
 use Rattle.dp_check.specs.declared.place.Place.{Place}
 
 -- what a program gets from a piece of its text: a site or a local variable
-pub data Part : Type 0 where
-  Site : (line : ℕ) (kind : SiteKind) → Part
-  Local : Name → Part
+pub data TextPart : Type 0 where
+  Site : (line : ℕ) (kind : SiteKind) → TextPart
+  Local : Name → TextPart
 
 abbrev mutual
   -- the parts of a statement in text order, but for a `for`: its step comes behind its body
-  pub parts : RawStmt → List Part
+  pub parts : RawStmt → List TextPart
   parts (Declare line name value) = Site line kind.Assign ∷ Local name ∷ []
   parts (Assign name value) = Site name.line kind.Assign ∷ []
   parts (Store name index value) = Site name.line kind.Assign ∷ []
@@ -28,30 +28,30 @@ abbrev mutual
   parts (Break line cond) = Site line kind.Break ∷ []
 
   -- the same of the statements of a block
-  pub parts_in : {n : _} → Row_of-RawStmt n → List Part
+  pub parts_in : {n : _} → Row_of-RawStmt n → List TextPart
   parts_in end_of-RawStmt = []
   parts_in (more_of-RawStmt s rest) = parts s ++ parts_in rest
 
 -- the same of a list
-abbrev pub parts_all : List RawStmt → List Part
+abbrev pub parts_all : List RawStmt → List TextPart
 parts_all [] = []
 parts_all (s ∷ rest) = parts s ++ parts_all rest
 
 -- how many sites there are among the parts
-abbrev pub site_count : List Part → ℕ
-site_count [] = 0
-site_count (Site line kind ∷ rest) = suc (site_count rest)
-site_count (Local name ∷ rest) = site_count rest
+abbrev pub sites_among : List TextPart → ℕ
+sites_among [] = 0
+sites_among (Site line kind ∷ rest) = suc (sites_among rest)
+sites_among (Local name ∷ rest) = sites_among rest
 
 -- how many local variables are declared there
-abbrev pub local_count : List Part → ℕ
+abbrev pub local_count : List TextPart → ℕ
 local_count [] = 0
 local_count (Site line kind ∷ rest) = local_count rest
 local_count (Local name ∷ rest) = suc (local_count rest)
 
 -- the place after a block: its numbers are used, and its names are given up
-abbrev pub passed : Place → List Part → Place
-passed p done = record p { variable = p.variable + local_count done; site = p.site + site_count done }
+abbrev pub place_passed : Place → List TextPart → Place
+place_passed p done = record p { variable = p.variable + local_count done; site = p.site + sites_among done }
 
 -- a number that comes next has more than 32 bits
 abbrev pub IsPastNumbers : Place → Type 0
@@ -74,19 +74,19 @@ abbrev pub with_scalar : Place → Name → Place
 with_scalar p name = record (with_name p name (Scalar (record { 0 = p.variable }))) { variable = p.variable + 1 }
 
 -- the place after a statement: a name is visible from the end of its declaration on
-abbrev pub after : Place → RawStmt → Place
-after p (Declare line name value) = with_scalar (sited p) name
-after p s = passed p (parts s)
+abbrev pub place_after : Place → RawStmt → Place
+place_after p (Declare line name value) = with_scalar (sited p) name
+place_after p s = place_passed p (parts s)
 
 -- the place after the statements of a block, before its end
 abbrev pub after_in : {n : _} → Place → Row_of-RawStmt n → Place
 after_in p end_of-RawStmt = p
-after_in p (more_of-RawStmt s rest) = after_in (after p s) rest
+after_in p (more_of-RawStmt s rest) = after_in (place_after p s) rest
 
 -- the place after statements
-abbrev pub after_all : Place → List RawStmt → Place
-after_all p [] = p
-after_all p (s ∷ rest) = after_all (after p s) rest
+abbrev pub place_after_all : Place → List RawStmt → Place
+place_after_all p [] = p
+place_after_all p (s ∷ rest) = place_after_all (place_after p s) rest
 
 -- the place after a function's parameters
 abbrev pub after_params : Place → List Name → Place

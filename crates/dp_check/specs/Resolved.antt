@@ -16,7 +16,7 @@ use Rattle.dp_check.specs.declared.names.Meaning.{Meaning}
 use Rattle.dp_check.specs.declared.names.Meaning.TheVariants.{Scalar, Array, Function}
 use Rattle.dp_check.specs.declared.place.Place.{Place}
 use Rattle.dp_check.specs.Names.{Named, named}
-use Rattle.dp_check.specs.Place.{sited, passed, parts_in, parts_all, after, after_in, after_all, with_scalar}
+use Rattle.dp_check.specs.Place.{sited, place_passed, parts_in, parts_all, place_after, after_in, place_after_all, with_scalar}
 
 -- the variable's number; in a lawful text the name is one
 abbrev pub variable_of : Option Meaning → VarId
@@ -50,9 +50,12 @@ resolved_expr names (raw.Number n) = tree.Number n
 resolved_expr names (raw.Scalar name) = scalar_expr (named names name.text)
 resolved_expr names (raw.Element' name _ (more_of-RawExpr e end_of-RawExpr)) = element_expr (array_of (named names name.text)) (resolved_expr names e)
 resolved_expr names (raw.Unary' op _ (more_of-RawExpr a end_of-RawExpr)) = tree.Unary op (resolved_expr names a)
-resolved_expr names (raw.Binary' op _ (more_of-RawExpr a end_of-RawExpr) _ (more_of-RawExpr b end_of-RawExpr)) = tree.Binary op (resolved_expr names a) (resolved_expr names b)
-resolved_expr names (raw.And' _ (more_of-RawExpr a end_of-RawExpr) _ (more_of-RawExpr b end_of-RawExpr)) = tree.And (resolved_expr names a) (resolved_expr names b)
-resolved_expr names (raw.Or' _ (more_of-RawExpr a end_of-RawExpr) _ (more_of-RawExpr b end_of-RawExpr)) = tree.Or (resolved_expr names a) (resolved_expr names b)
+resolved_expr names (raw.Binary' op _ (more_of-RawExpr a end_of-RawExpr) _ (more_of-RawExpr b end_of-RawExpr)) =
+    tree.Binary op (resolved_expr names a) (resolved_expr names b)
+resolved_expr names (raw.And' _ (more_of-RawExpr a end_of-RawExpr) _ (more_of-RawExpr b end_of-RawExpr)) =
+    tree.And (resolved_expr names a) (resolved_expr names b)
+resolved_expr names (raw.Or' _ (more_of-RawExpr a end_of-RawExpr) _ (more_of-RawExpr b end_of-RawExpr)) =
+    tree.Or (resolved_expr names a) (resolved_expr names b)
 
 -- the site and the variable with the next numbers
 abbrev pub next_site : Place → SiteId
@@ -72,46 +75,47 @@ abbrev mutual
   resolved p (Call name args) = code.Call (function_of (named p.names name.text)) name.line (map (resolved_expr p.names) args) ∷ []
   resolved p (Print line value) = code.Print (next_site p) (resolved_expr p.names value) ∷ []
   resolved p (If' line cond _ then_part _ else_part) =
-      code.If (next_site p) (resolved_expr p.names cond) (resolved_in (sited p) then_part) (resolved_in (passed (sited p) (parts_in then_part)) else_part) ∷ []
+      code.If (next_site p) (resolved_expr p.names cond) (resolved_in (sited p) then_part)
+      (resolved_in (place_passed (sited p) (parts_in then_part)) else_part) ∷ []
   resolved p (While' line marked cond _ body) = code.While (next_site p) (resolved_expr p.names cond) (resolved_in (sited p) body) ∷ []
   resolved p (For' line marked _ first cond _ step _ body) =
       resolved_in p first ++ code.While (next_site (after_in p first)) (resolved_expr (after_in p first).names cond)
-      (resolved_in (sited (after_in p first)) body ++ resolved_in (passed (sited (after_in p first)) (parts_in body)) step) ∷ []
+      (resolved_in (sited (after_in p first)) body ++ resolved_in (place_passed (sited (after_in p first)) (parts_in body)) step) ∷ []
   resolved p (Break line cond) = code.Break (next_site p) (resolved_expr p.names cond) ∷ []
 
   -- the same of the statements of a block
   pub resolved_in : {n : _} → Place → Row_of-RawStmt n → List Stmt
   resolved_in p end_of-RawStmt = []
-  resolved_in p (more_of-RawStmt s rest) = resolved p s ++ resolved_in (after p s) rest
+  resolved_in p (more_of-RawStmt s rest) = resolved p s ++ resolved_in (place_after p s) rest
 
 -- the same of a list
 abbrev pub resolved_all : Place → List RawStmt → List Stmt
 resolved_all p [] = []
-resolved_all p (s ∷ rest) = resolved p s ++ resolved_all (after p s) rest
+resolved_all p (s ∷ rest) = resolved p s ++ resolved_all (place_after p s) rest
 
 -- the form is that of a marked loop
-abbrev pub is_region_at : RawStmt-F RawStmt → Bool
-is_region_at (While line marked cond body) = marked
-is_region_at (For line marked first cond step body) = marked
-is_region_at _ = false
+abbrev pub is_marked_loop_at : RawStmt-F RawStmt → Bool
+is_marked_loop_at (While line marked cond body) = marked
+is_marked_loop_at (For line marked first cond step body) = marked
+is_marked_loop_at _ = false
 
 -- a marked loop; it is a region where it stands at the top of `main`
-abbrev pub is_region : RawStmt → Bool
-is_region s = is_region_at (out-RawStmt s)
+abbrev pub is_marked_loop : RawStmt → Bool
+is_marked_loop s = is_marked_loop_at (out-RawStmt s)
 
 -- the body of a loop with a step, from the place behind its condition
-abbrev pub with_step : Place → List RawStmt → List RawStmt → List Stmt
-with_step p step body = resolved_all p body ++ resolved_all (passed p (parts_all body)) step
+abbrev pub with_loop_step : Place → List RawStmt → List RawStmt → List Stmt
+with_loop_step p step body = resolved_all p body ++ resolved_all (place_passed p (parts_all body)) step
 
 -- region r with a step, from the place behind its initialiser
 abbrev pub stepped_region : Place → ℕ → RawExpr → List RawStmt → List RawStmt → Stmt
-stepped_region p r cond step body = code.Region r (next_site p) (resolved_expr p.names cond) (with_step (sited p) step body)
+stepped_region p r cond step body = code.Region r (next_site p) (resolved_expr p.names cond) (with_loop_step (sited p) step body)
 
 -- a marked loop as region r, behind the initialiser if it has one, and another statement as it was
 abbrev pub region_at : Place → ℕ → RawStmt-F RawStmt → List Stmt → List Stmt
 region_at p r (While line true cond body) plain = code.Region r (next_site p) (resolved_expr p.names cond) (resolved_all (sited p) body) ∷ []
 region_at p r (For line true first cond step body) plain =
-    resolved_all p first ++ stepped_region (after_all p first) r cond step body ∷ []
+    resolved_all p first ++ stepped_region (place_after_all p first) r cond step body ∷ []
 region_at p r _ plain = plain
 
 -- a statement at the top of `main`, where region r is the next one
@@ -121,7 +125,7 @@ resolved_top p r s = region_at p r (out-RawStmt s) (resolved p s)
 -- `main`, where region r is the next one
 abbrev pub resolved_main : Place → ℕ → List RawStmt → List Stmt
 resolved_main p r [] = []
-resolved_main p r (s ∷ rest) = resolved_top p r s ++ resolved_main (after p s) (if is_region s then r + 1 else r) rest
+resolved_main p r (s ∷ rest) = resolved_top p r s ++ resolved_main (place_after p s) (if is_marked_loop s then r + 1 else r) rest
 
 -- the variables of a function's parameters
 abbrev pub param_variables : Place → List Name → List VarId

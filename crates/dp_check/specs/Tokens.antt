@@ -8,7 +8,7 @@ use Rattle.dp_tree.specs.declared.raw.RawStmt.TheVariants.{Declare, Assign, Stor
 use Rattle.dp_check.specs.declared.place.Place.{Place}
 use Rattle.dp_check.specs.Names.{Named}
 use Rattle.dp_check.specs.Offence.{Token, Use, Declares, Reads, ReadsElement, Assigns, AssignsElement, Calls}
-use Rattle.dp_check.specs.Place.{sited, passed, parts_in, after, after_in, with_scalar}
+use Rattle.dp_check.specs.Place.{sited, place_passed, parts_in, place_after, after_in, with_scalar}
 
 -- a name with what it is written for, and the names that are visible there
 abbrev pub token : List Named → Use → Name → Token
@@ -39,22 +39,22 @@ abbrev mutual
   tokens p (Call name args) = token p.names (Calls (length args)) name ∷ args_tokens p.names args
   tokens p (Print line value) = expr_tokens p.names value
   tokens p (If' line cond _ then_part _ else_part) =
-      expr_tokens p.names cond ++ (tokens_in (sited p) then_part ++ tokens_in (passed (sited p) (parts_in then_part)) else_part)
+      expr_tokens p.names cond ++ (tokens_in (sited p) then_part ++ tokens_in (place_passed (sited p) (parts_in then_part)) else_part)
   tokens p (While' line marked cond _ body) = expr_tokens p.names cond ++ tokens_in (sited p) body
   tokens p (For' line marked _ first cond _ step _ body) =
       tokens_in p first ++ (expr_tokens (after_in p first).names cond
-      ++ (tokens_in (passed (sited (after_in p first)) (parts_in body)) step ++ tokens_in (sited (after_in p first)) body))
+      ++ (tokens_in (place_passed (sited (after_in p first)) (parts_in body)) step ++ tokens_in (sited (after_in p first)) body))
   tokens p (Break line cond) = expr_tokens p.names cond
 
   -- the same of the statements of a block
   pub tokens_in : {n : _} → Place → Row_of-RawStmt n → List Token
   tokens_in p end_of-RawStmt = []
-  tokens_in p (more_of-RawStmt s rest) = tokens p s ++ tokens_in (after p s) rest
+  tokens_in p (more_of-RawStmt s rest) = tokens p s ++ tokens_in (place_after p s) rest
 
 -- the same of a list
 abbrev pub tokens_all : Place → List RawStmt → List Token
 tokens_all p [] = []
-tokens_all p (s ∷ rest) = tokens p s ++ tokens_all (after p s) rest
+tokens_all p (s ∷ rest) = tokens p s ++ tokens_all (place_after p s) rest
 
 -- a parameter is visible to the parameters after it
 abbrev pub params_tokens : Place → List Name → List Token

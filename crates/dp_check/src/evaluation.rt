@@ -3,7 +3,7 @@
 ghost use Rattle.std.specs.Prelude.{◌≡◌, IfOk, OnOk};
 ghost use Rattle.dp_check.specs.Place.{sited};
 ghost use Rattle.dp_check.specs.Resolved.{next_site};
-ghost use Rattle.dp_check.specs.Answer.{Gives, expr_answer};
+ghost use Rattle.dp_check.specs.Answer.{GivesChecked, expr_answer};
 ghost use Rattle.dp_check.specs.steps.Evaluation.{expr_part};
 
 use crate::place::Place;
@@ -18,7 +18,7 @@ pub fn evaluation(
     place: &mut Place<'_>,
     e: &RawExpr,
 ) -> Result<(SiteId, Expr), CheckFail>
-    ensures expr { Gives (expr_answer place.old.names e.now) (expr_part result) }
+    ensures expr { GivesChecked (expr_answer place.old.names e.now) (expr_part result) }
     ensures site { IfOk result (λ found. found.0 ≡ next_site place.old) }
     ensures place { OnOk result (place.new ≡ sited place.old) }
 {

@@ -3,7 +3,7 @@
 ghost use Rattle.std.specs.Prelude.{◌≡◌, IfOk};
 ghost use Rattle.dp_tree.specs.declared.Expr.TheVariants.{Number};
 ghost use Rattle.dp_check.specs.Resolved.{element_expr};
-ghost use Rattle.dp_check.specs.Answer.{Gives, expr_answer, args_answer};
+ghost use Rattle.dp_check.specs.Answer.{GivesChecked, expr_answer, args_answer};
 
 use crate::names::Names;
 use crate::{CheckFail, uses};
@@ -30,7 +30,7 @@ fn number(n: i64) -> Expr
 
 #[tactic(auto, using(crate::proofs::ExprLemmas::expr_answers))]
 pub fn resolve(alloc: Global, names: &Names<'_>, e: &RawExpr) -> Result<Expr, CheckFail>
-    ensures { Gives (expr_answer names.now e.now) result }
+    ensures { GivesChecked (expr_answer names.now e.now) result }
 {
     match e {
         RawExpr::Number(n) => Ok(number(*n)),
@@ -68,7 +68,7 @@ pub fn resolve_all(
     names: &Names<'_>,
     all: &[RawExpr],
 ) -> Result<Row<Expr>, CheckFail>
-    ensures { Gives (args_answer names.now all.now) result }
+    ensures { GivesChecked (args_answer names.now all.now) result }
 {
     let mut done = Row::new(alloc);
     for e in all {

@@ -2,10 +2,10 @@
 
 ghost use Rattle.std.specs.Prelude.{◌≡◌, ◌++◌, OnOk};
 ghost use Rattle.dp_check.specs.Offence.{Declares, offence, first_offence};
-ghost use Rattle.dp_check.specs.Place.{after_params, passed, with_scalar};
+ghost use Rattle.dp_check.specs.Place.{after_params, place_passed, with_scalar};
 ghost use Rattle.dp_check.specs.Tables.{function_parts};
 ghost use Rattle.dp_check.specs.Tokens.{token};
-ghost use Rattle.dp_check.specs.Answer.{Gives, answer, param_answer, params_answer, body_answer};
+ghost use Rattle.dp_check.specs.Answer.{GivesChecked, answer, param_answer, params_answer, body_answer};
 
 use crate::names::Meaning;
 use crate::place::{Place, next};
@@ -27,7 +27,7 @@ pub struct Head<'a> {
 
 #[tactic(auto, unfolding(crate::specs::Answer::param_answer))]
 fn parameter<'a>(place: &mut Place<'a>, name: &'a Name) -> Result<VarId, CheckFail>
-    ensures value { Gives (param_answer place.old name.now) result }
+    ensures value { GivesChecked (param_answer place.old name.now) result }
     ensures place { OnOk result (place.new ≡ with_scalar place.old name.now) }
 {
     uses::undeclared(&place.names, name)?;
@@ -40,7 +40,7 @@ fn parameters<'a>(
     place: &mut Place<'a>,
     all: &'a [Name],
 ) -> Result<Row<VarId>, CheckFail>
-    ensures value { Gives (params_answer place.old all.now) result }
+    ensures value { GivesChecked (params_answer place.old all.now) result }
     ensures place { OnOk result (place.new ≡ after_params place.old all.now) }
 {
     let mut done = Row::new(alloc);
@@ -58,8 +58,8 @@ fn function<'a>(
     params: &'a [Name],
     body: &'a [RawStmt],
 ) -> Result<Function, CheckFail>
-    ensures value { Gives (body_answer place.old params.now body.now) result }
-    ensures place { OnOk result (place.new ≡ passed place.old (function_parts params.now body.now)) }
+    ensures value { GivesChecked (body_answer place.old params.now body.now) result }
+    ensures place { OnOk result (place.new ≡ place_passed place.old (function_parts params.now body.now)) }
 {
     let count = place.names.len();
     let params = parameters(alloc, place, params)?;
@@ -69,10 +69,11 @@ fn function<'a>(
 }
 
 impl<'a> Head<'a> {
-    ghost use Rattle.dp_check.specs.Items.{with_global, with_array, with_function, function_answer, after_item, after_items, item_tokens, item_functions, items_answer};
+    ghost use Rattle.dp_check.specs.Items.{with_global, with_array, with_function, function_answer, after_item, after_items, item_tokens, item_functions};
+    ghost use Rattle.dp_check.specs.Items.{items_answer};
 
     fn scalar(&mut self, name: &'a Name) -> Result<(), CheckFail>
-        ensures value { Gives (answer (offence (token self.old.place.names Declares name.now)) tt) result }
+        ensures value { GivesChecked (answer (offence (token self.old.place.names Declares name.now)) tt) result }
         ensures head { OnOk result (self.new ≡ with_global self.old name.now) }
     {
         uses::undeclared(&self.place.names, name)?;
@@ -84,7 +85,7 @@ impl<'a> Head<'a> {
     }
 
     fn array(&mut self, name: &'a Name) -> Result<(), CheckFail>
-        ensures value { Gives (answer (offence (token self.old.place.names Declares name.now)) tt) result }
+        ensures value { GivesChecked (answer (offence (token self.old.place.names Declares name.now)) tt) result }
         ensures head { OnOk result (self.new ≡ with_array self.old name.now) }
     {
         uses::undeclared(&self.place.names, name)?;
@@ -103,7 +104,7 @@ impl<'a> Head<'a> {
         params: &'a [Name],
         body: &'a [RawStmt],
     ) -> Result<Function, CheckFail>
-        ensures value { Gives (function_answer self.old name.now params.now body.now) result }
+        ensures value { GivesChecked (function_answer self.old name.now params.now body.now) result }
         ensures head { OnOk result (self.new ≡ with_function self.old name.now params.now body.now) }
     {
         uses::undeclared(&self.place.names, name)?;
@@ -125,7 +126,7 @@ impl<'a> Head<'a> {
         item: &'a RawItem,
         done: &mut Row<Function>,
     ) -> Result<(), CheckFail>
-        ensures value { Gives (answer (first_offence (item_tokens self.old item.now)) tt) result }
+        ensures value { GivesChecked (answer (first_offence (item_tokens self.old item.now)) tt) result }
         ensures functions { OnOk result (done.new ≡ done.old ++ item_functions self.old item.now) }
         ensures head { OnOk result (self.new ≡ after_item self.old item.now) }
     {
@@ -141,7 +142,7 @@ impl<'a> Head<'a> {
 
     /// The functions among the items.
     pub fn items(&mut self, alloc: Global, all: &'a [RawItem]) -> Result<Row<Function>, CheckFail>
-        ensures value { Gives (items_answer self.old all.now) result }
+        ensures value { GivesChecked (items_answer self.old all.now) result }
         ensures head { OnOk result (self.new ≡ after_items self.old all.now) }
     {
         let mut done = Row::new(alloc);

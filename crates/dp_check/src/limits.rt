@@ -1,10 +1,10 @@
 //! What a lawful program is refused for: counts above their limits.
 
 ghost use Rattle.std.specs.Prelude.{◌≡◌, ◌≤◌, ◌+◌, ◌^◌, length, IfOk, OnErr};
-ghost use Rattle.dp_base.specs.Counts.{reported};
+ghost use Rattle.dp_base.specs.Counts.{reported_count};
 ghost use Rattle.dp_check.specs.Answer.{unless};
 ghost use Rattle.dp_check.specs.Limits as spec;
-ghost use Rattle.dp_check.specs.Tables.{cells_of, global_of, globals};
+ghost use Rattle.dp_check.specs.Tables.{cells_in_length, global_of, globals};
 ghost use Rattle.dp_check.specs.CheckAnswer.{too_many_functions, too_many_cells};
 
 use crate::CheckFail;
@@ -36,7 +36,7 @@ fn global_after(count: u32, item: &RawItem) -> Result<u32, NoMemory>
 }
 
 fn size_reported(size: i64) -> u32
-    ensures { result ≡ reported (cells_of size) }
+    ensures { result ≡ reported_count (cells_in_length size) }
 {
     if size < 0 {
         0
@@ -48,7 +48,7 @@ fn size_reported(size: i64) -> u32
 }
 
 fn cells_in(item: &RawItem) -> u32
-    ensures value { result ≡ reported (spec.cell_sum (global_of item.now)) }
+    ensures value { result ≡ reported_count (spec.cell_sum (global_of item.now)) }
     ensures small { result ≤ COUNTED }
 {
     match item {
@@ -60,7 +60,7 @@ fn cells_in(item: &RawItem) -> u32
 
 /// The cells of the file-scope variables, as they are reported.
 fn cell_count(items: &[RawItem]) -> u32
-    ensures { result ≡ reported (spec.global_cells items.now) }
+    ensures { result ≡ reported_count (spec.global_cells items.now) }
 {
     let mut count = 0;
     for item in items {
@@ -81,7 +81,7 @@ fn functions_in(item: &RawItem) -> u32
 
 /// The functions, as they are reported.
 fn function_count(items: &[RawItem]) -> u32
-    ensures { result ≡ reported (spec.function_count items.now) }
+    ensures { result ≡ reported_count (spec.function_count items.now) }
 {
     let mut count = 0;
     for item in items {

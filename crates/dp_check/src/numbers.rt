@@ -1,7 +1,7 @@
 //! The numbers that statements use, before any name is looked at.
 
 ghost use Rattle.std.specs.Prelude.{◌≡◌, ◌≤◌, ◌^◌, OnErr, OnOk};
-ghost use Rattle.dp_check.specs.Place.{IsPastNumbers, passed, parts, parts_all, sited, with_variable};
+ghost use Rattle.dp_check.specs.Place.{IsPastNumbers, place_passed, parts, parts_all, sited, with_variable};
 
 use crate::place::Place;
 use dp_base::NoMemory;
@@ -30,8 +30,8 @@ fn pass_site(place: &mut Place<'_>) -> Result<(), NoMemory>
 #[tactic(auto, using(crate::proofs::PlaceLemmas::pass_forms))]
 #[cycle(numbers)]
 fn pass(place: &mut Place<'_>, s: &RawStmt) -> Result<(), NoMemory>
-    ensures place { OnOk result (place.new ≡ passed place.old (parts s.now)) }
-    ensures full { OnErr result (IsPastNumbers (passed place.old (parts s.now))) }
+    ensures place { OnOk result (place.new ≡ place_passed place.old (parts s.now)) }
+    ensures full { OnErr result (IsPastNumbers (place_passed place.old (parts s.now))) }
 {
     match s {
         RawStmt::Declare { .. } => pass_declaration(place),
@@ -70,8 +70,8 @@ fn pass(place: &mut Place<'_>, s: &RawStmt) -> Result<(), NoMemory>
 /// Passes statements one after the other.
 #[cycle(numbers)]
 pub fn pass_all(place: &mut Place<'_>, all: &[RawStmt]) -> Result<(), NoMemory>
-    ensures place { OnOk result (place.new ≡ passed place.old (parts_all all.now)) }
-    ensures full { OnErr result (IsPastNumbers (passed place.old (parts_all all.now))) }
+    ensures place { OnOk result (place.new ≡ place_passed place.old (parts_all all.now)) }
+    ensures full { OnErr result (IsPastNumbers (place_passed place.old (parts_all all.now))) }
 {
     for s in all {
         pass(place, s)?;

@@ -2,7 +2,7 @@
 
 ghost use Rattle.std.specs.Prelude.{◌≡◌, IfOk};
 ghost use Rattle.dp_check.specs.Tables as tables;
-ghost use Rattle.dp_check.specs.Answer.{Gives};
+ghost use Rattle.dp_check.specs.Answer.{GivesChecked};
 ghost use Rattle.dp_check.specs.CheckAnswer.{check_answer};
 
 use crate::CheckFail;
@@ -26,7 +26,7 @@ fn variables(alloc: Global, raw: &RawProgram) -> Result<Row<VarInfo>, NoMemory>
 }
 
 fn sites(alloc: Global, raw: &RawProgram) -> Result<Sites, NoMemory>
-    ensures rows { IfOk result (λ table. table.rows ≡ tables.sites raw.now) }
+    ensures rows { IfOk result (λ table. table.rows ≡ tables.program_sites raw.now) }
     ensures regions { IfOk result (λ table. table.regions ≡ tables.regions_from 1 raw.now.main) }
 {
     let mut table = Sites::new(alloc);
@@ -39,7 +39,7 @@ fn sites(alloc: Global, raw: &RawProgram) -> Result<Sites, NoMemory>
 /// answer is that memory is wanting.
 #[tactic(auto, using(crate::proofs::CheckAnswerLemmas::check_answers))]
 pub fn check(alloc: Global, raw: &RawProgram) -> Result<Program, CheckFail>
-    ensures { Gives (check_answer raw.now) result }
+    ensures { GivesChecked (check_answer raw.now) result }
 {
     let (functions, main) = resolve(alloc, raw)?;
     within(raw)?;

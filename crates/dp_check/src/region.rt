@@ -2,9 +2,9 @@
 
 ghost use Rattle.std.specs.Prelude.{◌≡◌, ◌≤◌, ◌+◌, ◌^◌, ◌++◌, [], ℕ, true, IfOk, OnErr, OnOk, if◌then◌else◌};
 ghost use Rattle.dp_tree.specs.declared.raw.RawStmt.TheVariants as tree;
-ghost use Rattle.dp_check.specs.Place.{after, passed, parts_all, sited};
+ghost use Rattle.dp_check.specs.Place.{place_after, place_passed, parts_all, sited};
 ghost use Rattle.dp_check.specs.Resolved as spec;
-ghost use Rattle.dp_check.specs.Answer.{Gives, onto, with_last, stepped_answer, top_answer, main_answer};
+ghost use Rattle.dp_check.specs.Answer.{GivesChecked, onto, with_last, stepped_answer, top_answer, main_answer};
 
 use crate::CheckFail;
 use crate::evaluation::evaluation;
@@ -17,7 +17,7 @@ use std::alloc::Global;
 /// At the top of `main` a marked loop is a region.
 #[tactic(auto, using(crate::proofs::RegionLemmas::region_forms))]
 pub fn is_region(s: &RawStmt) -> bool
-    ensures { result ≡ spec.is_region s.now }
+    ensures { result ≡ spec.is_marked_loop s.now }
 {
     match s {
         RawStmt::While { marked, .. } | RawStmt::For { marked, .. } => *marked,
@@ -33,8 +33,8 @@ fn region<'a>(
     cond: &RawExpr,
     body: &'a [RawStmt],
 ) -> Result<Stmt, CheckFail>
-    ensures value { (line : ℕ) → Gives (top_answer place.old region (tree.While line true cond.now body.now)) (with_last [] result) }
-    ensures place { OnOk result (place.new ≡ passed (sited place.old) (parts_all body.now)) }
+    ensures value { (line : ℕ) → GivesChecked (top_answer place.old region (tree.While line true cond.now body.now)) (with_last [] result) }
+    ensures place { OnOk result (place.new ≡ place_passed (sited place.old) (parts_all body.now)) }
 {
     let (site, cond) = evaluation(alloc, place, cond)?;
     let body = block(alloc, place, body)?;
@@ -56,8 +56,8 @@ fn stepped_region<'a>(
     step: &'a [RawStmt],
     body: &'a [RawStmt],
 ) -> Result<Stmt, CheckFail>
-    ensures value { Gives (stepped_answer place.old region cond.now step.now body.now) result }
-    ensures place { OnOk result (place.new ≡ passed (sited place.old) (parts_all body.now ++ parts_all step.now)) }
+    ensures value { GivesChecked (stepped_answer place.old region cond.now step.now body.now) result }
+    ensures place { OnOk result (place.new ≡ place_passed (sited place.old) (parts_all body.now ++ parts_all step.now)) }
 {
     let (site, cond) = evaluation(alloc, place, cond)?;
     let body = looped(alloc, place, step, body)?;
@@ -78,8 +78,8 @@ fn top<'a>(
     s: &'a RawStmt,
     done: &mut Row<Stmt>,
 ) -> Result<Stmt, CheckFail>
-    ensures value { Gives (onto done.old (top_answer place.old number s.now)) (with_last done.new result) }
-    ensures place { OnOk result (place.new ≡ after place.old s.now) }
+    ensures value { GivesChecked (onto done.old (top_answer place.old number s.now)) (with_last done.new result) }
+    ensures place { OnOk result (place.new ≡ place_after place.old s.now) }
 {
     match s {
         RawStmt::While {
@@ -109,8 +109,8 @@ fn top<'a>(
 
 /// The number of the next region after a statement.
 pub fn region_after(number: u32, s: &RawStmt) -> Result<u32, NoMemory>
-    ensures value { IfOk result (λ n. n ≡ (if spec.is_region s.now then number + 1 else number)) }
-    ensures full { OnErr result (2 ^ 32 ≤ (if spec.is_region s.now then number + 1 else number)) }
+    ensures value { IfOk result (λ n. n ≡ (if spec.is_marked_loop s.now then number + 1 else number)) }
+    ensures full { OnErr result (2 ^ 32 ≤ (if spec.is_marked_loop s.now then number + 1 else number)) }
 {
     if is_region(s) {
         next(number)
@@ -125,7 +125,7 @@ pub fn main_statements<'a>(
     place: &mut Place<'a>,
     all: &'a [RawStmt],
 ) -> Result<Row<Stmt>, CheckFail>
-    ensures { Gives (main_answer place.old 1 all.now) result }
+    ensures { GivesChecked (main_answer place.old 1 all.now) result }
 {
     let mut done = Row::new(alloc);
     let mut number = 1;

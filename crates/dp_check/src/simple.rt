@@ -3,7 +3,7 @@
 ghost use Rattle.std.specs.Prelude.{◌≡◌, ℕ, [], OnOk};
 ghost use Rattle.dp_tree.specs.declared.raw.RawStmt.TheVariants as tree;
 ghost use Rattle.dp_check.specs.Place.{sited, with_scalar};
-ghost use Rattle.dp_check.specs.Answer.{Gives, with_last, statement_answer};
+ghost use Rattle.dp_check.specs.Answer.{GivesChecked, with_last, statement_answer};
 
 use crate::evaluation::evaluation;
 use crate::place::Place;
@@ -18,7 +18,7 @@ pub fn declare<'a>(
     name: &'a Name,
     value: &RawExpr,
 ) -> Result<Stmt, CheckFail>
-    ensures value { (line : ℕ) → Gives (statement_answer place.old (tree.Declare line name.now value.now)) (with_last [] result) }
+    ensures value { (line : ℕ) → GivesChecked (statement_answer place.old (tree.Declare line name.now value.now)) (with_last [] result) }
     ensures place { OnOk result (place.new ≡ with_scalar (sited place.old) name.now) }
 {
     uses::undeclared(&place.names, name)?;
@@ -34,7 +34,7 @@ pub fn assign(
     name: &Name,
     value: &RawExpr,
 ) -> Result<Stmt, CheckFail>
-    ensures value { Gives (statement_answer place.old (tree.Assign name.now value.now)) (with_last [] result) }
+    ensures value { GivesChecked (statement_answer place.old (tree.Assign name.now value.now)) (with_last [] result) }
     ensures place { OnOk result (place.new ≡ sited place.old) }
 {
     let var = uses::assigned(&place.names, name)?;
@@ -50,7 +50,7 @@ pub fn store(
     index: &RawExpr,
     value: &RawExpr,
 ) -> Result<Stmt, CheckFail>
-    ensures value { Gives (statement_answer place.old (tree.Store name.now index.now value.now)) (with_last [] result) }
+    ensures value { GivesChecked (statement_answer place.old (tree.Store name.now index.now value.now)) (with_last [] result) }
     ensures place { OnOk result (place.new ≡ sited place.old) }
 {
     let var = uses::assigned_element(&place.names, name)?;
@@ -71,7 +71,7 @@ pub fn call(
     name: &Name,
     args: &[RawExpr],
 ) -> Result<Stmt, CheckFail>
-    ensures { Gives (statement_answer place.now (tree.Call name.now args.now)) (with_last [] result) }
+    ensures { GivesChecked (statement_answer place.now (tree.Call name.now args.now)) (with_last [] result) }
 {
     let function = uses::called(&place.names, name, args.len())?;
     let args = expr::resolve_all(alloc, &place.names, args)?;
@@ -84,7 +84,7 @@ pub fn call(
 
 #[tactic(auto, using(crate::proofs::StatementLemmas::statement_answers))]
 pub fn print(alloc: Global, place: &mut Place<'_>, value: &RawExpr) -> Result<Stmt, CheckFail>
-    ensures value { (line : ℕ) → Gives (statement_answer place.old (tree.Print line value.now)) (with_last [] result) }
+    ensures value { (line : ℕ) → GivesChecked (statement_answer place.old (tree.Print line value.now)) (with_last [] result) }
     ensures place { OnOk result (place.new ≡ sited place.old) }
 {
     let (site, value) = evaluation(alloc, place, value)?;
@@ -93,7 +93,7 @@ pub fn print(alloc: Global, place: &mut Place<'_>, value: &RawExpr) -> Result<St
 
 #[tactic(auto, using(crate::proofs::StatementLemmas::statement_answers))]
 pub fn exit(alloc: Global, place: &mut Place<'_>, cond: &RawExpr) -> Result<Stmt, CheckFail>
-    ensures value { (line : ℕ) → Gives (statement_answer place.old (tree.Break line cond.now)) (with_last [] result) }
+    ensures value { (line : ℕ) → GivesChecked (statement_answer place.old (tree.Break line cond.now)) (with_last [] result) }
     ensures place { OnOk result (place.new ≡ sited place.old) }
 {
     let (site, cond) = evaluation(alloc, place, cond)?;

@@ -46,7 +46,7 @@ impl Sites {
     #[tactic(auto, using(crate::proofs::TableLemmas::site_forms))]
     #[cycle(sites)]
     fn statement(&mut self, region: u32, s: &RawStmt) -> Result<(), NoMemory>
-        ensures { OnOk result (self.new ≡ with_sites self.old (spec.sites_of region (parts s.now))) }
+        ensures { OnOk result (self.new ≡ with_sites self.old (spec.sites_made region (parts s.now))) }
     {
         match s {
             RawStmt::Declare { line, .. } => self.site(*line, SiteKind::Assign, region),
@@ -83,7 +83,7 @@ impl Sites {
     /// The sites of a loop's condition and body.
     #[cycle(sites)]
     fn turns(&mut self, region: u32, line: u32, body: &[RawStmt]) -> Result<(), NoMemory>
-        ensures { OnOk result (self.new ≡ with_sites self.old (spec.sites_of region (Site line kind.While ∷ parts_all body.now))) }
+        ensures { OnOk result (self.new ≡ with_sites self.old (spec.sites_made region (Site line kind.While ∷ parts_all body.now))) }
     {
         self.site(line, SiteKind::While, region)?;
         self.statements(region, body)?;
@@ -93,7 +93,7 @@ impl Sites {
     /// The sites of statements.
     #[cycle(sites)]
     fn statements(&mut self, region: u32, all: &[RawStmt]) -> Result<(), NoMemory>
-        ensures { OnOk result (self.new ≡ with_sites self.old (spec.sites_of region (parts_all all.now))) }
+        ensures { OnOk result (self.new ≡ with_sites self.old (spec.sites_made region (parts_all all.now))) }
     {
         for s in all {
             self.statement(region, s)?;
@@ -103,7 +103,11 @@ impl Sites {
 
     /// A region whose first site is this one, and whose last site is the last so far.
     fn region(&mut self, line: u32, first: u32) -> Result<(), NoMemory>
-        ensures { OnOk result (self.new ≡ record self.old { regions = self.old.regions ++ record { line = line; first = record { 0 = first }; last = record { 0 = self.old.next - 1 } } ∷ [] }) }
+        ensures { OnOk result
+            (self.new ≡ record self.old {
+              regions = self.old.regions
+                  ++ record { line = line; first = record { 0 = first }; last = record { 0 = self.old.next - 1 } } ∷ [];
+            }) }
     {
         self.regions.push(RegionInfo {
             line,
@@ -152,7 +156,7 @@ impl Sites {
     }
 
     fn function(&mut self, item: &RawItem) -> Result<(), NoMemory>
-        ensures { OnOk result (self.new ≡ with_sites self.old (spec.sites_of 0 (spec.item_parts item.now))) }
+        ensures { OnOk result (self.new ≡ with_sites self.old (spec.sites_made 0 (spec.item_parts item.now))) }
     {
         match item {
             RawItem::Function { body, .. } => self.statements(0, body.as_slice()),
@@ -162,7 +166,7 @@ impl Sites {
 
     /// The sites of the functions.
     pub fn functions(&mut self, items: &[RawItem]) -> Result<(), NoMemory>
-        ensures { OnOk result (self.new ≡ with_sites self.old (flat_map (λ item. spec.sites_of 0 (spec.item_parts item)) items.now)) }
+        ensures { OnOk result (self.new ≡ with_sites self.old (flat_map (λ item. spec.sites_made 0 (spec.item_parts item)) items.now)) }
     {
         for item in items {
             self.function(item)?;

@@ -2,8 +2,8 @@
 
 ghost use Rattle.std.specs.Prelude.{◌≡◌, ◌++◌, ℕ, Bool, [], OnOk};
 ghost use Rattle.dp_tree.specs.declared.raw.RawStmt.TheVariants as tree;
-ghost use Rattle.dp_check.specs.Place.{after, after_all, passed, parts_all, sited};
-ghost use Rattle.dp_check.specs.Answer.{Gives, onto, with_last, with_all, statement_answer, block_answer, loop_answer};
+ghost use Rattle.dp_check.specs.Place.{place_after, place_after_all, place_passed, parts_all, sited};
+ghost use Rattle.dp_check.specs.Answer.{GivesChecked, onto, with_last, with_all, statement_answer, block_answer, loop_answer};
 
 use crate::CheckFail;
 use crate::evaluation::evaluation;
@@ -24,8 +24,8 @@ fn conditional<'a>(
     else_part: &'a [RawStmt],
     cond: &RawExpr,
 ) -> Result<Stmt, CheckFail>
-    ensures value { (line : ℕ) → Gives (statement_answer place.old (tree.If line cond.now then_part.now else_part.now)) (with_last [] result) }
-    ensures place { OnOk result (place.new ≡ passed (passed (sited place.old) (parts_all then_part.now)) (parts_all else_part.now)) }
+    ensures value { (line : ℕ) → GivesChecked (statement_answer place.old (tree.If line cond.now then_part.now else_part.now)) (with_last [] result) }
+    ensures place { OnOk result (place.new ≡ place_passed (place_passed (sited place.old) (parts_all then_part.now)) (parts_all else_part.now)) }
 {
     let (site, cond) = evaluation(alloc, place, cond)?;
     let then_part = block(alloc, place, then_part)?;
@@ -47,8 +47,8 @@ fn repeated<'a>(
     body: &'a [RawStmt],
     cond: &RawExpr,
 ) -> Result<Stmt, CheckFail>
-    ensures value { (line : ℕ) (marked : Bool) → Gives (statement_answer place.old (tree.While line marked cond.now body.now)) (with_last [] result) }
-    ensures place { OnOk result (place.new ≡ passed (sited place.old) (parts_all body.now)) }
+    ensures value { (line : ℕ) (marked : Bool) → GivesChecked (statement_answer place.old (tree.While line marked cond.now body.now)) (with_last [] result) }
+    ensures place { OnOk result (place.new ≡ place_passed (sited place.old) (parts_all body.now)) }
 {
     let (site, cond) = evaluation(alloc, place, cond)?;
     let body = block(alloc, place, body)?;
@@ -64,8 +64,8 @@ pub fn looped<'a>(
     step: &'a [RawStmt],
     body: &'a [RawStmt],
 ) -> Result<Row<Stmt>, CheckFail>
-    ensures value { Gives (loop_answer place.old step.now body.now) result }
-    ensures place { OnOk result (place.new ≡ passed place.old (parts_all body.now ++ parts_all step.now)) }
+    ensures value { GivesChecked (loop_answer place.old step.now body.now) result }
+    ensures place { OnOk result (place.new ≡ place_passed place.old (parts_all body.now ++ parts_all step.now)) }
 {
     let last = step_of(alloc, place, step, body)?;
     let mut inside = block(alloc, place, body)?;
@@ -85,8 +85,9 @@ fn counted<'a>(
     cond: &RawExpr,
     done: &mut Row<Stmt>,
 ) -> Result<Stmt, CheckFail>
-    ensures value { (line : ℕ) (marked : Bool) → Gives (onto done.old (statement_answer place.old (tree.For line marked first.now cond.now step.now body.now))) (with_last done.new result) }
-    ensures place { (line : ℕ) (marked : Bool) → OnOk result (place.new ≡ after place.old (tree.For line marked first.now cond.now step.now body.now)) }
+    ensures value { (line : ℕ) (marked : Bool) →
+        GivesChecked (onto done.old (statement_answer place.old (tree.For line marked first.now cond.now step.now body.now))) (with_last done.new result) }
+    ensures place { (line : ℕ) (marked : Bool) → OnOk result (place.new ≡ place_after place.old (tree.For line marked first.now cond.now step.now body.now)) }
 {
     let count = place.names.len();
     statements(alloc, place, first, done)?;
@@ -106,8 +107,8 @@ pub fn statement<'a>(
     s: &'a RawStmt,
     done: &mut Row<Stmt>,
 ) -> Result<Stmt, CheckFail>
-    ensures value { Gives (onto done.old (statement_answer place.old s.now)) (with_last done.new result) }
-    ensures place { OnOk result (place.new ≡ after place.old s.now) }
+    ensures value { GivesChecked (onto done.old (statement_answer place.old s.now)) (with_last done.new result) }
+    ensures place { OnOk result (place.new ≡ place_after place.old s.now) }
 {
     match s {
         RawStmt::Declare { name, value, .. } => declare(alloc, place, name, value),
@@ -147,8 +148,8 @@ pub fn statements<'a>(
     all: &'a [RawStmt],
     done: &mut Row<Stmt>,
 ) -> Result<(), CheckFail>
-    ensures value { Gives (onto done.old (block_answer place.old all.now)) (with_all done.new result) }
-    ensures place { OnOk result (place.new ≡ after_all place.old all.now) }
+    ensures value { GivesChecked (onto done.old (block_answer place.old all.now)) (with_all done.new result) }
+    ensures place { OnOk result (place.new ≡ place_after_all place.old all.now) }
 {
     for s in all {
         let last = statement(alloc, place, s, done)?;
@@ -165,8 +166,8 @@ pub fn block<'a>(
     place: &mut Place<'a>,
     all: &'a [RawStmt],
 ) -> Result<Row<Stmt>, CheckFail>
-    ensures value { Gives (block_answer place.old all.now) result }
-    ensures place { OnOk result (place.new ≡ passed place.old (parts_all all.now)) }
+    ensures value { GivesChecked (block_answer place.old all.now) result }
+    ensures place { OnOk result (place.new ≡ place_passed place.old (parts_all all.now)) }
 {
     let count = place.names.len();
     let mut done = Row::new(alloc);
@@ -183,7 +184,7 @@ fn step_of<'a>(
     step: &'a [RawStmt],
     body: &'a [RawStmt],
 ) -> Result<Row<Stmt>, CheckFail>
-    ensures value { Gives (block_answer (passed place.old (parts_all body.now)) step.now) result }
+    ensures value { GivesChecked (block_answer (place_passed place.old (parts_all body.now)) step.now) result }
     ensures place { OnOk result (place.new ≡ place.old) }
 {
     let start = place.numbers();

@@ -1,6 +1,6 @@
 //! A program's text with numbers in place of names.
 
-ghost use Rattle.dp_check.specs.Answer.{Gives};
+ghost use Rattle.dp_check.specs.Answer.{GivesChecked};
 ghost use Rattle.dp_check.specs.CheckAnswer.{trees_answer};
 
 use crate::CheckFail;
@@ -16,7 +16,7 @@ use std::alloc::Global;
 
 /// The functions and the statements of `main`.
 pub fn resolve(alloc: Global, raw: &RawProgram) -> Result<(Row<Function>, Row<Stmt>), CheckFail>
-    ensures { Gives (trees_answer raw.now) result }
+    ensures { GivesChecked (trees_answer raw.now) result }
 {
     let items = raw.items.as_slice();
     let statements = raw.main.as_slice();

@@ -23,8 +23,8 @@ pub struct Variables {
 
 /// A length as a number of cells.
 fn cells_of(size: i64) -> Result<u32, NoMemory>
-    ensures value { IfOk result (λ n. n ≡ spec.cells_of size) }
-    ensures large { OnErr result (2 ^ 32 ≤ spec.cells_of size) }
+    ensures value { IfOk result (λ n. n ≡ spec.cells_in_length size) }
+    ensures large { OnErr result (2 ^ 32 ≤ spec.cells_in_length size) }
 {
     if size < 0 {
         return Ok(0);

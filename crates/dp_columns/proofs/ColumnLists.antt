@@ -1,5 +1,6 @@
 -- Columns where one of them changed.
-use Rattle.std.proofs.Common.{◌≡◌, refl, sym, ap, subst, ◌∙◌, ℕ, suc, ◌+◌, List, [], ◌∷◌, ◌++◌, ℤ, length, map, drop, get_or, slice_get, slice_set, replicate, Some, All, arith}
+use Rattle.std.proofs.Common.{◌≡◌, refl, sym, ap, subst, ◌∙◌, ℕ, suc, ◌+◌, List, [], ◌∷◌, ◌++◌, ℤ, length, map, drop, get_or, slice_get, slice_set, replicate}
+use Rattle.std.proofs.Common.{Some, All, arith}
 use Rattle.std.proofs.lemmas.List.{map-append, append_assoc}
 use Rattle.std.proofs.lemmas.List.Elements.{All-push}
 use Rattle.dp_tree.specs.Eval.{Load}
@@ -8,9 +9,10 @@ use Rattle.dp_lean.specs.Queues.{Told, Did, DidBlock}
 use Rattle.dp_columns.specs.declared.ColumnKind.{ColumnKind}
 use Rattle.dp_columns.specs.declared.ColumnKind.TheVariants.{Nothing, Value, Element, Block}
 use Rattle.dp_columns.specs.declared.column.Column.{Column}
-use Rattle.dp_columns.specs.Paired.{Grouped, did, stored_by, block_told}
+use Rattle.dp_columns.specs.Paired.{Grouped, did, as_store, block_told}
 use Rattle.dp_columns.specs.Held.{told_by, told_of, begun_stores, IsEmpty, AreEmpty, no_events}
-use Rattle.dp_columns.specs.Columned.{Columned, nothing_kept, with_told, with_block_store, block_ended, with_load, loads_ended, KeepsValues, KeepsElements, KeepsBlocks, value_cell}
+use Rattle.dp_columns.specs.Columned.{Columned, nothing_kept, with_told, with_block_store, block_ended, with_load, loads_ended, KeepsValues, KeepsElements}
+use Rattle.dp_columns.specs.Columned.{KeepsBlocks, value_cell}
 use Rattle.dp_columns.specs.Viewed.{kept_of}
 use Rattle.dp_columns.proofs.Places.{set_again, at_map, same_map, list_at, grown_map, set_map, rest_at}
 
@@ -44,8 +46,15 @@ module _ (columns : List Column) (loads : List Grouped) (place : ℕ) (c : Colum
   told_more d t kind more blocks =
       let kinds = same_map kind_of columns place c d at kind in
       let told = grown_map told_of columns place c d t at more in
-      let stores = same_map begun_stores columns place c d at (λ k. map stored_by (blocks k).unfinished) in
-      λ k. record { kinds = kinds k; told = told k; stores = stores k; loads = map (λ (e : Grouped). e.ended) loads; loading = map (λ (e : Grouped). e.unfinished) loads }
+      let stores = same_map begun_stores columns place c d at (λ k. map as_store (blocks k).unfinished) in
+      λ k. record {
+        kinds = kinds k;
+        told = told k;
+        stores = stores k;
+        loads = map (λ (e : Grouped). e.ended) loads;
+        loading = map (λ (e : Grouped).
+            e.unfinished) loads;
+      }
 
   pub same_column : (d : Column) → d ≡ c → kept_of (slice_set columns place d) loads ≡ kept_of columns loads
   same_column d e = ap (λ (cs : List Column). kept_of cs loads) (ap (slice_set columns place) e ∙ set_again columns place c at)
@@ -58,7 +67,8 @@ module _ (columns : List Column) (loads : List Grouped) (place : ℕ) (c : Colum
         kept_of (slice_set columns place (record { kind = c.kind; values = vs; elements = c.elements; blocks = c.blocks })) loads
         ≡ with_told place (Did (value_cell (slice_get old.kinds place)) v) old
     value_put vs v is more =
-        subst (λ (o : Columned). KeepsValues (slice_get o.kinds place) → kept_of (slice_set columns place d) loads ≡ with_told place (Did (value_cell (slice_get o.kinds place)) v) o)
+        subst (λ (o : Columned). KeepsValues (slice_get o.kinds place) → kept_of (slice_set columns place d) loads ≡ with_told place
+        (Did (value_cell (slice_get o.kinds place)) v) o)
         seen here is
       where
         d : Column
@@ -70,7 +80,8 @@ module _ (columns : List Column) (loads : List Grouped) (place : ℕ) (c : Colum
             let cell = value_cell (slice_get (map kind_of columns) place) in
             let kind = value_there is in
             told_more d (Did cell v) refl
-            (ap (λ k. told_by k d) kind ∙ ap (map (Did cell)) more ∙ map-append (Did cell) c.values (v ∷ []) ∙ ap (λ (q : List Told). q ++ Did cell v ∷ []) (sym (ap (λ k. told_by k c) kind))) refl
+            (ap (λ k. told_by k d) kind ∙ ap (map (Did cell)) more ∙ map-append (Did cell) c.values (v ∷ [])
+            ∙ ap (λ (q : List Told). q ++ Did cell v ∷ []) (sym (ap (λ k. told_by k c) kind))) refl
 
     pub element_put : (es : List Load) (l : Load) → KeepsElements (slice_get old.kinds place) → es ≡ c.elements ++ l ∷ [] →
         kept_of (slice_set columns place (record { kind = c.kind; values = c.values; elements = es; blocks = c.blocks })) loads ≡ with_told place (did l) old
@@ -78,24 +89,37 @@ module _ (columns : List Column) (loads : List Grouped) (place : ℕ) (c : Colum
         let d : Column = record { kind = c.kind; values = c.values; elements = es; blocks = c.blocks } in
         let kind = of_element c.kind (subst KeepsElements (ap (λ (o : Columned). slice_get o.kinds place) (sym seen) ∙ kind_there) is) in
         told_more d (did l) refl
-        (ap (λ k. told_by k d) kind ∙ ap (map did) more ∙ map-append did c.elements (l ∷ []) ∙ ap (λ (q : List Told). q ++ did l ∷ []) (sym (ap (λ k. told_by k c) kind))) refl
+        (ap (λ k. told_by k d) kind ∙ ap (map did) more ∙ map-append did c.elements (l ∷ [])
+        ∙ ap (λ (q : List Told). q ++ did l ∷ []) (sym (ap (λ k. told_by k c) kind))) refl
         ∙ ap (with_told place (did l)) seen
 
     block_there : KeepsBlocks (slice_get old.kinds place) → c.kind ≡ Block
     block_there is = of_block c.kind (subst KeepsBlocks (ap (λ (o : Columned). slice_get o.kinds place) (sym seen) ∙ kind_there) is)
 
-    pub store_put : (bs : Grouped) (l : Load) → KeepsBlocks (slice_get old.kinds place) → bs ≡ record { ended = c.blocks.ended; unfinished = c.blocks.unfinished ++ l ∷ [] } →
-        kept_of (slice_set columns place (record { kind = c.kind; values = c.values; elements = c.elements; blocks = bs })) loads ≡ with_block_store place (stored_by l) old
+    pub store_put : (bs : Grouped) (l : Load) → KeepsBlocks (slice_get old.kinds place) →
+        bs ≡ record { ended = c.blocks.ended; unfinished = c.blocks.unfinished ++ l ∷ [] } →
+        kept_of (slice_set columns place (record { kind = c.kind; values = c.values; elements = c.elements; blocks = bs })) loads ≡ with_block_store
+        place (as_store l) old
     store_put bs l is more =
         let d : Column = record { kind = c.kind; values = c.values; elements = c.elements; blocks = bs } in
         let kind = block_there is in
-        let told = same_map told_of columns place c d at (ap (λ k. told_by k d) kind ∙ (λ k. map block_told (more k).ended) ∙ sym (ap (λ k. told_by k c) kind)) in
+        let told = same_map told_of columns place c d at (ap (λ k. told_by k d) kind ∙ (λ k. map block_told (more k).ended)
+        ∙ sym (ap (λ k. told_by k c) kind)) in
         let kinds = same_map kind_of columns place c d at refl in
-        let stores = grown_map begun_stores columns place c d (stored_by l) at ((λ k. map stored_by (more k).unfinished) ∙ map-append stored_by c.blocks.unfinished (l ∷ [])) in
-        (λ k. record { kinds = kinds k; told = told k; stores = stores k; loads = map (λ (e : Grouped). e.ended) loads; loading = map (λ (e : Grouped). e.unfinished) loads })
-        ∙ ap (with_block_store place (stored_by l)) seen
+        let stores = grown_map begun_stores columns place c d (as_store l) at ((λ k. map as_store (more k).unfinished)
+        ∙ map-append as_store c.blocks.unfinished (l ∷ [])) in
+        (λ k. record {
+          kinds = kinds k;
+          told = told k;
+          stores = stores k;
+          loads = map (λ (e : Grouped). e.ended) loads;
+          loading = map (λ (e : Grouped).
+              e.unfinished) loads;
+        })
+        ∙ ap (with_block_store place (as_store l)) seen
 
-    pub block_put : (bs : Grouped) → KeepsBlocks (slice_get old.kinds place) → bs ≡ record { ended = c.blocks.ended ++ c.blocks.unfinished ∷ []; unfinished = [] } →
+    pub block_put : (bs : Grouped) → KeepsBlocks (slice_get old.kinds place) →
+        bs ≡ record { ended = c.blocks.ended ++ c.blocks.unfinished ∷ []; unfinished = [] } →
         kept_of (slice_set columns place (record { kind = c.kind; values = c.values; elements = c.elements; blocks = bs })) loads ≡ block_ended place old
     block_put bs is more =
         let d : Column = record { kind = c.kind; values = c.values; elements = c.elements; blocks = bs } in
@@ -103,10 +127,18 @@ module _ (columns : List Column) (loads : List Grouped) (place : ℕ) (c : Colum
         let grown = ap (λ k. told_by k d) kind ∙ (λ k. map block_told (more k).ended) ∙ map-append block_told c.blocks.ended (c.blocks.unfinished ∷ [])
         ∙ ap (λ (q : List Told). q ++ block_told c.blocks.unfinished ∷ []) (sym (ap (λ k. told_by k c) kind)) in
         let told = grown_map told_of columns place c d (block_told c.blocks.unfinished) at grown
-        ∙ ap (λ (s : List Effect). slice_set (map told_of columns) place (get_or (map told_of columns) place [] ++ DidBlock s ∷ [])) (sym (list_at begun_stores columns place c at)) in
+        ∙ ap (λ (s : List Effect). slice_set (map told_of columns) place (get_or (map told_of columns) place [] ++ DidBlock s ∷ []))
+        (sym (list_at begun_stores columns place c at)) in
         let kinds = same_map kind_of columns place c d at refl in
-        let stores = set_map begun_stores columns place d [] (λ k. map stored_by (more k).unfinished) in
-        (λ k. record { kinds = kinds k; told = told k; stores = stores k; loads = map (λ (e : Grouped). e.ended) loads; loading = map (λ (e : Grouped). e.unfinished) loads })
+        let stores = set_map begun_stores columns place d [] (λ k. map as_store (more k).unfinished) in
+        (λ k. record {
+          kinds = kinds k;
+          told = told k;
+          stores = stores k;
+          loads = map (λ (e : Grouped). e.ended) loads;
+          loading = map (λ (e : Grouped).
+              e.unfinished) loads;
+        })
         ∙ ap (block_ended place) seen
 
 -- .. and events of loads
@@ -131,12 +163,15 @@ module _ (columns : List Column) (loads : List Grouped) (place : ℕ) (g : Group
       λ k. record { kinds = map kind_of columns; told = map told_of columns; stores = map begun_stores columns; loads = ended k; loading = unfinished k }
 
 -- columns made one after the other
-pub column_pushed : (kinds : List ColumnKind) (told new : List Column) (d : Column) (i : ℕ) (k : ColumnKind) → slice_get kinds i ≡ Some k → d.kind ≡ k → IsEmpty d → new ≡ told ++ d ∷ [] →
+pub column_pushed : (kinds : List ColumnKind) (told new : List Column) (d : Column) (i : ℕ) (k : ColumnKind) → slice_get kinds i ≡ Some k → d.kind ≡ k →
+    IsEmpty d → new ≡ told ++ d ∷ [] →
     (map kind_of told ++ drop i kinds ≡ kinds) × All IsEmpty told → (map kind_of new ++ drop (i + 1) kinds ≡ kinds) × All IsEmpty new
 column_pushed kinds told new d i k at kind empty e made =
     let one : i + 1 ≡ suc i = omega arith in (
-      (λ j. map kind_of (e j) ++ drop (one j) kinds) ∙ ap (λ (ks : List ColumnKind). ks ++ drop (suc i) kinds) (map-append kind_of told (d ∷ []) ∙ ap (λ (x : ColumnKind). map kind_of told ++ x ∷ []) kind)
-          ∙ append_assoc (map kind_of told) (k ∷ []) (drop (suc i) kinds) ∙ ap (λ (ks : List ColumnKind). map kind_of told ++ ks) (sym (rest_at kinds i k at)) ∙ made.0,
+      (λ j. map kind_of (e j) ++ drop (one j) kinds) ∙ ap (λ (ks : List ColumnKind). ks ++ drop (suc i) kinds) (map-append kind_of told (d ∷ [])
+          ∙ ap (λ (x : ColumnKind). map kind_of told ++ x ∷ []) kind)
+          ∙ append_assoc (map kind_of told) (k ∷ []) (drop (suc i) kinds) ∙ ap (λ (ks : List ColumnKind). map kind_of told ++ ks)
+          (sym (rest_at kinds i k at)) ∙ made.0,
       subst (All IsEmpty) (sym e) (All-push IsEmpty told d made.1 empty),
     )
 
@@ -150,7 +185,8 @@ told_none c e = by c.kind
     by Element = ap (map did) e.elements
     by Block = λ k. map block_told (e.blocks k).ended
 
-none_each : {X : Type 0} (f : Column → List X) → ((c : Column) → IsEmpty c → f c ≡ []) → (columns : List Column) → All IsEmpty columns → map f columns ≡ map (λ _. []) (map kind_of columns)
+none_each : {X : Type 0} (f : Column → List X) → ((c : Column) → IsEmpty c → f c ≡ []) → (columns : List Column) → All IsEmpty columns →
+    map f columns ≡ map (λ _. []) (map kind_of columns)
 none_each f none [] all = refl
 none_each f none (c ∷ columns) all = λ k. none c (all 0 c (omega arith)) k ∷ none_each f none columns (λ i d lt. all (suc i) d (omega (arith, lt))) k
 
@@ -158,11 +194,12 @@ no_loads : {X : Type 0} (kinds : List ColumnKind) (f : Grouped → List X) → f
 no_loads [] f e = refl
 no_loads (x ∷ kinds) f e = λ k. e k ∷ no_loads kinds f e k
 
-pub kept_nothing : (kinds : List ColumnKind) (columns : List Column) (loads : List Grouped) → AreEmpty kinds columns → loads ≡ replicate (length kinds) no_events →
+pub kept_nothing : (kinds : List ColumnKind) (columns : List Column) (loads : List Grouped) → AreEmpty kinds columns →
+    loads ≡ replicate (length kinds) no_events →
     kept_of columns loads ≡ nothing_kept kinds
 kept_nothing kinds columns loads empty e =
     let told = none_each told_of told_none columns empty.1 ∙ ap (map (λ _. [])) empty.0 in
-    let stores = none_each begun_stores (λ c n. λ k. map stored_by (n.blocks k).unfinished) columns empty.1 ∙ ap (map (λ _. [])) empty.0 in
+    let stores = none_each begun_stores (λ c n. λ k. map as_store (n.blocks k).unfinished) columns empty.1 ∙ ap (map (λ _. [])) empty.0 in
     let ended = ap (map (λ (g : Grouped). g.ended)) e ∙ no_loads kinds (λ (g : Grouped). g.ended) refl in
     let unfinished = ap (map (λ (g : Grouped). g.unfinished)) e ∙ no_loads kinds (λ (g : Grouped). g.unfinished) refl in
     λ k. record { kinds = empty.0 k; told = told k; stores = stores k; loads = ended k; loading = unfinished k }

@@ -7,7 +7,7 @@ use Rattle.dp_columns.specs.declared.pairs.Part.{Part}
 use Rattle.dp_columns.specs.declared.events.Mark.{Mark}
 use Rattle.dp_columns.specs.Paired.{split_by, Grouped}
 use Rattle.dp_columns.specs.Lent.{IsPart}
-use Rattle.dp_columns.specs.Ahead.{IsReached, IsNext}
+use Rattle.dp_columns.specs.Ahead.{IsReached, IsNextEvent}
 use Rattle.dp_columns.proofs.PartLists.{parts_longer, parts_pushed, part_at, parts_before, sum_upto}
 
 abbrev pub grouped : List ℕ → ℕ → List Load → Grouped
@@ -17,8 +17,10 @@ drop_all : (xs : List Load) → drop (length xs) xs ≡ []
 drop_all [] = refl
 drop_all (x ∷ xs) = drop_all xs
 
-module _ (counts : List ℕ) (settled : ℕ) (pairs : List Load) (old : Grouped) (seen : grouped counts settled pairs ≡ old) (within : (settled ≡ sum counts) × (settled ≤ length pairs)) where
-  pub event_put : (new : List Load) (l : Load) → new ≡ pairs ++ l ∷ [] → grouped counts settled new ≡ record { ended = old.ended; unfinished = old.unfinished ++ l ∷ [] }
+module _ (counts : List ℕ) (settled : ℕ) (pairs : List Load) (old : Grouped) (seen : grouped counts settled pairs ≡ old)
+    (within : (settled ≡ sum counts) × (settled ≤ length pairs)) where
+  pub event_put : (new : List Load) (l : Load) → new ≡ pairs ++ l ∷ [] →
+      grouped counts settled new ≡ record { ended = old.ended; unfinished = old.unfinished ++ l ∷ [] }
   event_put new l e =
       let same : split_by counts new ≡ old.ended =
       ap (split_by counts) e ∙ parts_longer counts pairs (l ∷ []) (omega (arith, within.0, within.1)) ∙ ap (λ (g : Grouped). g.ended) seen in
@@ -30,7 +32,8 @@ module _ (counts : List ℕ) (settled : ℕ) (pairs : List Load) (old : Grouped)
       grouped new len pairs ≡ record { ended = old.ended ++ old.unfinished ∷ []; unfinished = [] }
   event_ended len new long e =
       let last : take (len - settled) (drop (sum counts) pairs) ≡ drop settled pairs =
-      take_all (len - settled) (drop (sum counts) pairs) (omega (arith, long, within.0, length-drop (sum counts) pairs)) ∙ ap (λ (k : ℕ). drop k pairs) (sym within.0) in
+      take_all (len - settled) (drop (sum counts) pairs) (omega (arith, long, within.0, length-drop (sum counts) pairs))
+      ∙ ap (λ (k : ℕ). drop k pairs) (sym within.0) in
       let all : split_by new pairs ≡ old.ended ++ old.unfinished ∷ [] =
       ap (λ (ns : List ℕ). split_by ns pairs) e ∙ parts_pushed counts (len - settled) pairs
       ∙ ap (λ (ls : List Load). split_by counts pairs ++ ls ∷ []) last ∙ ap (λ (g : Grouped). g.ended ++ g.unfinished ∷ []) seen in
@@ -48,7 +51,7 @@ module _ (counts : List ℕ) (settled : ℕ) (pairs : List Load) (old : Grouped)
     next_within = omega (arith, from_is, (sum_upto counts mark.at n found).1, within.0)
 
     pub next_is : (to : ℕ) (p : Part) → to ≡ mark.from + n → IsPart (take (to - mark.from) (drop mark.from pairs)) p →
-        IsNext old.ended mark (record { part = p; behind = record { at = mark.at + 1; from = to } })
+        IsNextEvent old.ended mark (record { part = p; behind = record { at = mark.at + 1; from = to } })
     next_is to p e is =
         let begin = sum (take mark.at counts) in
         let count : to - mark.from ≡ n = omega (arith, e) in

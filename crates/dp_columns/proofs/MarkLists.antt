@@ -13,7 +13,7 @@ use Rattle.dp_columns.specs.Paired.{Grouped}
 use Rattle.dp_columns.specs.Held.{told_of}
 use Rattle.dp_columns.specs.Columned.{KeepsValues, KeepsElements, KeepsBlocks, value_cell}
 use Rattle.dp_columns.specs.Left.{Left, TookTold, TookLoads}
-use Rattle.dp_columns.specs.Marked.{told_behind, loads_behind, FitsTold, FitsLoads, AreMarked, left_of}
+use Rattle.dp_columns.specs.Marked.{told_behind, loads_behind, FitsTold, FitsLoads, AreMarked, left_behind_marks}
 use Rattle.dp_columns.proofs.ColumnLists.{kind_of, of_value, of_element, of_block}
 use Rattle.dp_columns.proofs.Places.{at_map, set_map, rest_at, rest_none, zip_at, zip_set, zip_same, zip_all}
 
@@ -29,7 +29,8 @@ module _ {A B : Type 0} (P : A × B → Type 0) where
 module _ (columns : List Column) (events : List Grouped) (marks loads_marks : List Mark) where
   module _ (place : ℕ) (c : Column) (at : slice_get columns place ≡ Some c) where
     -- the mark of a column moves
-    moved_told : (next : Mark) → FitsTold (c, next) → AreMarked columns events marks loads_marks → AreMarked columns events (slice_set marks place next) loads_marks
+    moved_told : (next : Mark) → FitsTold (c, next) → AreMarked columns events marks loads_marks →
+        AreMarked columns events (slice_set marks place next) loads_marks
     moved_told next fits m = record {
       places = m.places;
       each = length-set marks place next ∙ m.each;
@@ -42,7 +43,7 @@ module _ (columns : List Column) (events : List Grouped) (marks loads_marks : Li
         AreMarked columns events marks loads_marks → AreMarked columns events new loads_marks
     marked_told next new e fits m = subst (λ (ms : List Mark). AreMarked columns events ms loads_marks) (sym e) (moved_told next fits m)
 
-    module _ (old : Left) (seen : left_of columns events marks loads_marks ≡ old) where
+    module _ (old : Left) (seen : left_behind_marks columns events marks loads_marks ≡ old) where
       kind_seen : slice_get old.kinds place ≡ Some c.kind
       kind_seen = ap (λ (l : Left). slice_get l.kinds place) (sym seen) ∙ at_map kind_of columns place c at
 
@@ -55,31 +56,35 @@ module _ (columns : List Column) (events : List Grouped) (marks loads_marks : Li
       pub block_seen : KeepsBlocks (slice_get old.kinds place) → c.kind ≡ Block
       block_seen is = of_block c.kind (subst KeepsBlocks kind_seen is)
 
-    module _ (mark : Mark) (there : slice_get marks place ≡ Some mark) (old : Left) (seen : left_of columns events marks loads_marks ≡ old) where
+    module _ (mark : Mark) (there : slice_get marks place ≡ Some mark) (old : Left) (seen : left_behind_marks columns events marks loads_marks ≡ old) where
       queue_there : slice_get old.told place ≡ Some (drop mark.at (told_of c))
-      queue_there = ap (λ (l : Left). slice_get l.told place) (sym seen) ∙ at_map told_behind (zip columns marks) place (c, mark) (zip_at columns marks place c mark at there)
+      queue_there = ap (λ (l : Left). slice_get l.told place) (sym seen) ∙ at_map told_behind (zip columns marks) place (c, mark)
+          (zip_at columns marks place c mark at there)
 
       taken_told : (t : Told) (next : Mark) → slice_get (told_of c) mark.at ≡ Some t → next.at ≡ suc mark.at →
-          TookTold old place (Some t) (left_of columns events (slice_set marks place next) loads_marks)
+          TookTold old place (Some t) (left_behind_marks columns events (slice_set marks place next) loads_marks)
       taken_told t next found behind =
           let rest = drop (suc mark.at) (told_of c) in
-          let moved = ap (map told_behind) (zip_set columns marks place c next at) ∙ set_map told_behind (zip columns marks) place (c, next) rest (ap (λ (n : ℕ). drop n (told_of c)) behind) in (
+          let moved = ap (map told_behind) (zip_set columns marks place c next at) ∙ set_map told_behind (zip columns marks) place (c, next) rest
+          (ap (λ (n : ℕ). drop n (told_of c)) behind) in (
             rest,
             queue_there ∙ ap Some (rest_at (told_of c) mark.at t found),
             (λ k. record { kinds = map (λ (d : Column). d.kind) columns; told = moved k; loads = map loads_behind (zip events loads_marks) })
                 ∙ (λ k. record { kinds = (seen k).kinds; told = slice_set (seen k).told place rest; loads = (seen k).loads }),
           )
 
-      pub took_told : (t : Told) (next : Mark) (new : List Mark) → new ≡ slice_set marks place next → slice_get (told_of c) mark.at ≡ Some t → next.at ≡ suc mark.at →
-          TookTold old place (Some t) (left_of columns events new loads_marks)
+      pub took_told : (t : Told) (next : Mark) (new : List Mark) → new ≡ slice_set marks place next → slice_get (told_of c) mark.at ≡ Some t →
+          next.at ≡ suc mark.at →
+          TookTold old place (Some t) (left_behind_marks columns events new loads_marks)
       took_told t next new e found behind =
-          subst (λ (ms : List Mark). TookTold old place (Some t) (left_of columns events ms loads_marks)) (sym e) (taken_told t next found behind)
+          subst (λ (ms : List Mark). TookTold old place (Some t) (left_behind_marks columns events ms loads_marks)) (sym e) (taken_told t next found behind)
 
       pub told_none_left : length (told_of c) ≤ mark.at → TookTold old place None old
       told_none_left le = (queue_there ∙ ap Some (rest_none (told_of c) mark.at le), refl)
 
   module _ (place : ℕ) (g : Grouped) (at : slice_get events place ≡ Some g) where
-    moved_loads : (next : Mark) → FitsLoads (g, next) → AreMarked columns events marks loads_marks → AreMarked columns events marks (slice_set loads_marks place next)
+    moved_loads : (next : Mark) → FitsLoads (g, next) → AreMarked columns events marks loads_marks →
+        AreMarked columns events marks (slice_set loads_marks place next)
     moved_loads next fits m = record {
       places = m.places;
       each = m.each;
@@ -92,25 +97,29 @@ module _ (columns : List Column) (events : List Grouped) (marks loads_marks : Li
         AreMarked columns events marks loads_marks → AreMarked columns events marks new
     marked_loads next new e fits m = subst (AreMarked columns events marks) (sym e) (moved_loads next fits m)
 
-    module _ (mark : Mark) (there : slice_get loads_marks place ≡ Some mark) (old : Left) (seen : left_of columns events marks loads_marks ≡ old) where
+    module _ (mark : Mark) (there : slice_get loads_marks place ≡ Some mark) (old : Left)
+        (seen : left_behind_marks columns events marks loads_marks ≡ old) where
       loads_there : slice_get old.loads place ≡ Some (drop mark.at g.ended)
-      loads_there = ap (λ (l : Left). slice_get l.loads place) (sym seen) ∙ at_map loads_behind (zip events loads_marks) place (g, mark) (zip_at events loads_marks place g mark at there)
+      loads_there = ap (λ (l : Left). slice_get l.loads place) (sym seen) ∙ at_map loads_behind (zip events loads_marks) place (g, mark)
+          (zip_at events loads_marks place g mark at there)
 
       taken_loads : (ls : List Load) (next : Mark) → slice_get g.ended mark.at ≡ Some ls → next.at ≡ suc mark.at →
-          TookLoads old place (Some ls) (left_of columns events marks (slice_set loads_marks place next))
+          TookLoads old place (Some ls) (left_behind_marks columns events marks (slice_set loads_marks place next))
       taken_loads ls next found behind =
           let rest = drop (suc mark.at) g.ended in
-          let moved = ap (map loads_behind) (zip_set events loads_marks place g next at) ∙ set_map loads_behind (zip events loads_marks) place (g, next) rest (ap (λ (n : ℕ). drop n g.ended) behind) in (
+          let moved = ap (map loads_behind) (zip_set events loads_marks place g next at) ∙ set_map loads_behind (zip events loads_marks) place (g, next) rest
+          (ap (λ (n : ℕ). drop n g.ended) behind) in (
             rest,
             loads_there ∙ ap Some (rest_at g.ended mark.at ls found),
             (λ k. record { kinds = map (λ (d : Column). d.kind) columns; told = map told_behind (zip columns marks); loads = moved k })
                 ∙ (λ k. record { kinds = (seen k).kinds; told = (seen k).told; loads = slice_set (seen k).loads place rest }),
           )
 
-      pub took_loads : (ls : List Load) (next : Mark) (new : List Mark) → new ≡ slice_set loads_marks place next → slice_get g.ended mark.at ≡ Some ls → next.at ≡ suc mark.at →
-          TookLoads old place (Some ls) (left_of columns events marks new)
+      pub took_loads : (ls : List Load) (next : Mark) (new : List Mark) → new ≡ slice_set loads_marks place next → slice_get g.ended mark.at ≡ Some ls →
+          next.at ≡ suc mark.at →
+          TookLoads old place (Some ls) (left_behind_marks columns events marks new)
       took_loads ls next new e found behind =
-          subst (λ (ms : List Mark). TookLoads old place (Some ls) (left_of columns events marks ms)) (sym e) (taken_loads ls next found behind)
+          subst (λ (ms : List Mark). TookLoads old place (Some ls) (left_behind_marks columns events marks ms)) (sym e) (taken_loads ls next found behind)
 
       pub loads_none_left : length g.ended ≤ mark.at → TookLoads old place None old
       loads_none_left le = (loads_there ∙ ap Some (rest_none g.ended mark.at le), refl)
@@ -119,7 +128,8 @@ module _ (columns : List Column) (events : List Grouped) (marks loads_marks : Li
 abbrev pub at_start : Mark
 at_start = record { at = 0; from = 0 }
 
-module _ (columns : List Column) (events : List Grouped) (marks loads_marks : List Mark) (e : marks ≡ replicate (length columns) at_start) (f : loads_marks ≡ replicate (length events) at_start) where
+module _ (columns : List Column) (events : List Grouped) (marks loads_marks : List Mark) (e : marks ≡ replicate (length columns) at_start)
+    (f : loads_marks ≡ replicate (length events) at_start) where
   pub marked_start : length events ≡ length columns → AreMarked columns events marks loads_marks
   marked_start same = record {
     places = same;
@@ -129,7 +139,7 @@ module _ (columns : List Column) (events : List Grouped) (marks loads_marks : Li
     loads = subst (λ (ms : List Mark). All FitsLoads (zip events ms)) (sym f) (zip_all FitsLoads events at_start (λ g. refl));
   }
 
-  pub left_all : left_of columns events marks loads_marks
+  pub left_all : left_behind_marks columns events marks loads_marks
       ≡ record { kinds = map (λ (c : Column). c.kind) columns; told = map told_of columns; loads = map (λ (g : Grouped). g.ended) events }
   left_all =
       let told = ap (λ (ms : List Mark). map told_behind (zip columns ms)) e ∙ zip_same told_behind columns at_start in

@@ -18,14 +18,16 @@ module _ {X : Type 0} where
   parts_longer [] xs ys le = refl
   parts_longer (n ∷ ns) xs ys le =
       let first : n ≤ length xs = omega (arith, le, sum_cons n ns) in
-      λ k. take-append-le n xs ys first k ∷ (ap (split_by ns) (drop-append-le n xs ys first) ∙ parts_longer ns (drop n xs) ys (omega (arith, le, sum_cons n ns, length-drop n xs))) k
+      λ k. take-append-le n xs ys first k ∷ (ap (split_by ns) (drop-append-le n xs ys first)
+      ∙ parts_longer ns (drop n xs) ys (omega (arith, le, sum_cons n ns, length-drop n xs))) k
 
   -- one part more
   pub parts_pushed : (ns : List ℕ) (n : ℕ) (xs : List X) → split_by (ns ++ n ∷ []) xs ≡ split_by ns xs ++ take n (drop (sum ns) xs) ∷ []
   parts_pushed [] n xs = refl
   parts_pushed (m ∷ ns) n xs =
       ap (λ (rest : List (List X)). take m xs ∷ rest)
-      (parts_pushed ns n (drop m xs) ∙ ap (λ (d : List X). split_by ns (drop m xs) ++ take n d ∷ []) (drop-drop (sum ns) m xs ∙ ap (λ (k : ℕ). drop k xs) (omega (arith, sum_cons m ns))))
+      (parts_pushed ns n (drop m xs) ∙ ap (λ (d : List X). split_by ns (drop m xs) ++ take n d ∷ []) (drop-drop (sum ns) m xs
+      ∙ ap (λ (k : ℕ). drop k xs) (omega (arith, sum_cons m ns))))
 
   -- the part at a place
   pub part_at : (ns : List ℕ) (at n : ℕ) (xs : List X) → slice_get ns at ≡ Some n → slice_get (split_by ns xs) at ≡ Some (take n (drop (sum (take at ns)) xs))

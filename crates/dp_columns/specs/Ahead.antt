@@ -11,7 +11,7 @@ abbrev pub IsReached : List (List Load) → Mark → Type 0
 IsReached ended mark = mark.from ≡ sum_by length (take mark.at ended)
 
 -- The event at the mark, and the mark behind it.
-pub record IsNext (ended : List (List Load)) (mark : Mark) (next : Next) : Type 0 where
+pub record IsNextEvent (ended : List (List Load)) (mark : Mark) (next : Next) : Type 0 where
   pub event : List Load
   pub found : slice_get ended mark.at ≡ Some event
   pub part : IsPart event next.part
@@ -19,6 +19,6 @@ pub record IsNext (ended : List (List Load)) (mark : Mark) (next : Next) : Type 
   pub fits : IsReached ended next.behind
 
 -- .. or there is none
-abbrev pub Finds : List (List Load) → Mark → Option Next → Type 0
-Finds ended mark (Some next) = IsNext ended mark next
-Finds ended mark None = length ended ≤ mark.at
+abbrev pub FindsNext : List (List Load) → Mark → Option Next → Type 0
+FindsNext ended mark (Some next) = IsNextEvent ended mark next
+FindsNext ended mark None = length ended ≤ mark.at

@@ -3,7 +3,7 @@ use Rattle.std.specs.Prelude.{◌≡◌, ◌<◌, ℕ, List, [], map, Some, slic
 use Rattle.std.specs.List.{All}
 use Rattle.dp_tree.specs.Step.{Effect}
 use Rattle.dp_lean.specs.Queues.{Told, Did}
-use Rattle.dp_columns.specs.Paired.{Grouped, did, stored_by, block_told}
+use Rattle.dp_columns.specs.Paired.{Grouped, did, as_store, block_told}
 use Rattle.dp_columns.specs.declared.ColumnKind.{ColumnKind}
 use Rattle.dp_columns.specs.declared.ColumnKind.TheVariants.{Nothing, Value, Element, Block}
 use Rattle.dp_columns.specs.declared.column.Column.{Column}
@@ -20,7 +20,7 @@ told_of c = told_by c.kind c
 
 -- the stores of a block that isn't ended
 abbrev pub begun_stores : Column → List Effect
-begun_stores c = map stored_by c.blocks.unfinished
+begun_stores c = map as_store c.blocks.unfinished
 
 -- no event, and nothing that isn't ended
 abbrev pub no_events : Grouped

@@ -34,8 +34,8 @@ pub record AreMarked (columns : List Column) (events : List Grouped) (marks load
   pub loads : All FitsLoads (zip events loads_marks)
 
 -- what is left of all
-abbrev pub left_of : List Column → List Grouped → List Mark → List Mark → Left
-left_of told loads told_marks loads_marks = record {
+abbrev pub left_behind_marks : List Column → List Grouped → List Mark → List Mark → Left
+left_behind_marks told loads told_marks loads_marks = record {
   kinds = map (λ (c : Column). c.kind) told;
   told = map told_behind (zip told told_marks);
   loads = map loads_behind (zip loads loads_marks);

@@ -17,12 +17,12 @@ pairs_of cells values = map load_of (zip cells values)
 abbrev pub did : Load → Told
 did l = Did l.cell l.value
 
-abbrev pub stored_by : Load → Effect
-stored_by l = Stored l.cell l.value
+abbrev pub as_store : Load → Effect
+as_store l = Stored l.cell l.value
 
 -- what a block with these stores tells
 abbrev pub block_told : List Load → Told
-block_told stores = DidBlock (map stored_by stores)
+block_told stores = DidBlock (map as_store stores)
 
 -- parts of these lengths, one behind the other
 abbrev pub split_by : {X : Type 0} → List ℕ → List X → List (List X)

@@ -8,14 +8,14 @@ use Rattle.dp_lean.specs.Queues.{Told, Did, DidBlock, load_in, told_in, loads_to
 use Rattle.dp_columns.specs.Columned.{Columned, with_told, with_load, loads_ended}
 
 -- the site that the item is of
-abbrev pub site_in : Item → ℕ
-site_in (Said w) = w.site.0
-site_in (Net f count stores) = f
+abbrev pub item_site : Item → ℕ
+item_site (Said w) = w.site.0
+item_site (Net f count stores) = f
 
 -- each item is of one of the region's sites, which begin with this one
 abbrev pub AllFrom : ℕ → List Item → Type 0
 AllFrom first [] = Unit {0}
-AllFrom first (i ∷ rest) = (first ≤ site_in i) × AllFrom first rest
+AllFrom first (i ∷ rest) = (first ≤ item_site i) × AllFrom first rest
 
 -- of some sites is kept what they told, and of some what they loaded
 module _ (first : ℕ) (is_kept is_compared : ℕ → Bool) where

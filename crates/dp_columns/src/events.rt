@@ -1,7 +1,7 @@
 //! Pairs, so many for each event.
 ghost use Rattle.std.specs.Prelude.{◌≡◌, ◌++◌, ◌∷◌, ◌<◌, ◌≤◌, ◌-◌, ◌+◌, [], length, take, drop, slice_get, Some, OnOk, OnErr};
 ghost use Rattle.dp_columns.specs.Paired.{with_pair, event_ended};
-ghost use Rattle.dp_columns.specs.Ahead.{IsReached, Finds};
+ghost use Rattle.dp_columns.specs.Ahead.{IsReached, FindsNext};
 
 use crate::pairs::{Pairs, Part};
 use dp_room::{NoMemory, Row};
@@ -98,7 +98,7 @@ impl Events {
     #[inline(always)]
     pub(crate) fn next(&self, mark: Mark) -> Option<Next<'_>>
         requires { IsReached self.now.ended mark }
-        ensures { Finds self.now.ended mark result }
+        ensures { FindsNext self.now.ended mark result }
     {
         let counts = self.counts.as_slice();
         if mark.at >= counts.len() {

@@ -41,11 +41,11 @@ impl ReaderRoom {
 
 impl<'c> Model for Reader<'c> {
     ghost use Rattle.dp_columns.specs.Left.{Left};
-    ghost use Rattle.dp_columns.specs.Marked.{left_of, AreMarked};
+    ghost use Rattle.dp_columns.specs.Marked.{left_behind_marks, AreMarked};
 
     ghost Value = { Left };
 
-    ghost view = { λ reader. left_of reader.told.now reader.loads.now reader.told_marks reader.loads_marks };
+    ghost view = { λ reader. left_behind_marks reader.told.now reader.loads.now reader.told_marks reader.loads_marks };
 
     ghost invariant = { λ reader. AreMarked reader.told.now reader.loads.now reader.told_marks reader.loads_marks };
 }

@@ -1,5 +1,6 @@
 -- The run ends within an iteration: the memory is that at the trace's end, and no further iteration starts.
-use Rattle.std.proofs.Common.{◌≡◌, refl, sym, ap, ◌∙◌, subst, ℕ, ◌+◌, ◌-◌, ◌<◌, Bool, true, false, if◌then◌else◌, List, [], ◌∷◌, ◌++◌, length, length-append, drop, Option, Some, None, slice_get, ℤ, arith}
+use Rattle.std.proofs.Common.{◌≡◌, refl, sym, ap, ◌∙◌, subst, ℕ, ◌+◌, ◌-◌, ◌<◌, Bool, true, false, if◌then◌else◌, List, [], ◌∷◌, ◌++◌, length, length-append}
+use Rattle.std.proofs.Common.{drop, Option, Some, None, slice_get, ℤ, arith}
 use Rattle.std.proofs.lemmas.List.{append-nil}
 use Rattle.std.proofs.Math.Seq.{drop-append_seam}
 use Rattle.dp_base.specs.declared.End.{End}
@@ -12,17 +13,19 @@ use Rattle.dp_meaning.specs.declared.ends.Part.TheVariants as part
 use Rattle.dp_meaning.specs.MachineState.{MachineState, rest_of_run, part_of}
 use Rattle.dp_meaning.specs.Continues.{Continues}
 use Rattle.dp_meaning.specs.Moved.{Moved}
-use Rattle.dp_meaning.specs.IterationRun.{GoesOn, HeadsOnce, Awaits, has_closed, current_after}
+use Rattle.dp_meaning.specs.IterationRun.{IterationGoesOn, HeadsOnce, AwaitsCondition, has_closed, current_after}
 use Rattle.dp_meaning.proofs.NextLemmas.{last_open}
-use Rattle.dp_commit.specs.CommittedState.{CommittedState, IsOpen, Holds, BrokeOff, region_run, steps_of_first}
+use Rattle.dp_commit.specs.CommittedState.{CommittedState, IsOpen, HoldsCommitted, BrokeOff, region_run, steps_of_first}
 use Rattle.dp_commit.proofs.Lists.{get_at_seam}
 use Rattle.dp_commit.proofs.Parts.{never_plain, off_plain, on_region}
 use Rattle.dp_commit.proofs.Heads as heads
 use Rattle.dp_commit.proofs.Going.{goes, started}
 use Rattle.dp_commit.proofs.Committing.{headed, join}
 
-module _ (first : MachineState) (c : CommittedState) (h : Holds first c) (o : IsOpen c) (m : MachineState) (before after : List ℤ) (events : List Event) (configs : List Config)
-    (went : Moved c.machine m before after events configs) (heads_once : HeadsOnce c.region c.machine.current configs) (stay : GoesOn c.region c.machine m events)
+module _ (first : MachineState) (c : CommittedState) (h : HoldsCommitted first c) (o : IsOpen c) (m : MachineState) (before after : List ℤ)
+    (events : List Event) (configs : List Config)
+    (went : Moved c.machine m before after events configs) (heads_once : HeadsOnce c.region c.machine.current configs)
+    (stay : IterationGoesOn c.region c.machine m events)
     (fuel : ℕ) (end : End) (ends : rest_of_run m ≡ ended fuel m.config end) where
   abbrev run : Run
   run = region_run first
@@ -40,13 +43,15 @@ module _ (first : MachineState) (c : CommittedState) (h : Holds first c) (o : Is
   trace_is = went.run.trace ∙ ap (λ (x : Run). events ++ x.trace) ends ∙ append-nil events
 
   -- what comes next for the machine
-  awaits_is : Awaits c.region (current_after c.region None events) m.config
-  awaits_is = subst (λ (u : Option ℕ). Awaits c.region u m.config) (stay.current ∙ ap (λ (u : Option ℕ). current_after c.region u events) o.between) stay.awaits
+  awaits_is : AwaitsCondition c.region (current_after c.region None events) m.config
+  awaits_is = subst (λ (u : Option ℕ). AwaitsCondition c.region u m.config) (stay.current
+      ∙ ap (λ (u : Option ℕ). current_after c.region u events) o.between) stay.awaits
 
   none_by : (es : List Event) → events ≡ es → start rest c.region 1 ≡ None
   none_by [] e =
       let size : length configs ≡ 0 = omega (arith, went.run.paired, ap length e) in
-      let configs_are : rest.configs ≡ m.config ∷ [] = went.run.configs ∙ ap (λ (cs : List Config). cs ++ (rest_of_run m).configs) (no_items configs size) ∙ one_config in
+      let configs_are : rest.configs ≡ m.config ∷ [] = went.run.configs ∙ ap (λ (cs : List Config). cs ++ (rest_of_run m).configs)
+      (no_items configs size) ∙ one_config in
       ap (λ (cs : List Config). slice_get (places (stands_at_head c.region) 0 cs) 1) configs_are ∙ by (stands_at_head c.region m.config)
     where
       no_items : (cs : List Config) → length cs ≡ 0 → cs ≡ []
@@ -59,8 +64,10 @@ module _ (first : MachineState) (c : CommittedState) (h : Holds first c) (o : Is
   none_by (x ∷ es) e =
       let some : 0 < length events = omega (arith, ap length e) in
       let q = headed c.region configs (omega (arith, some, went.run.paired)) (subst (λ (u : Option ℕ). HeadsOnce c.region u configs) o.between heads_once) in
-      let plain : part_of m.config.to_do ≡ part.Plain = subst (λ (xs : List Event). Awaits c.region (current_after c.region None xs) m.config) e awaits_is in
-      heads.start_next c.region rest (rest_of_run m) events q.first q.inner (subst (λ (cs : List Config). Continues rest events cs (rest_of_run m)) q.is went.run)
+      let plain : part_of m.config.to_do ≡ part.Plain = subst (λ (xs : List Event). AwaitsCondition c.region (current_after c.region None xs)
+      m.config) e awaits_is in
+      heads.start_next c.region rest (rest_of_run m) events q.first q.inner
+      (subst (λ (cs : List Config). Continues rest events cs (rest_of_run m)) q.is went.run)
       (on_region c.region q.first q.on) (never_plain c.region q.inner q.plain)
       ∙ ap (λ (cs : List Config). slice_get (places (stands_at_head c.region) (length events) cs) 0) one_config
       ∙ ap (λ (t : Bool). slice_get (if t then length events ∷ [] else []) 0) (off_plain c.region m.config plain)
@@ -73,7 +80,8 @@ module _ (first : MachineState) (c : CommittedState) (h : Holds first c) (o : Is
 
   stop_is : stop_from run made None ≡ made + length events
   stop_is =
-      ap (λ (es : List Event). made + length (last_events (drop made es))) (h.piece.trace ∙ ap (λ (es : List Event). events_of_first run c.region c.count ++ es) trace_is)
+      ap (λ (es : List Event). made + length (last_events (drop made es))) (h.piece.trace
+      ∙ ap (λ (es : List Event). events_of_first run c.region c.count ++ es) trace_is)
       ∙ ap (λ (es : List Event). made + length (last_events es)) (drop-append_seam (events_of_first run c.region c.count) events)
       ∙ ap (λ (es : List Event). made + length es) (last_open events yet_open)
 
@@ -84,7 +92,8 @@ module _ (first : MachineState) (c : CommittedState) (h : Holds first c) (o : Is
   cells_there =
       let size = length-append (events_of_first run c.region c.count) events in
       let place : made + length events ≡ length (h.configs ++ configs) = omega (arith, size, whole.paired) in
-      ap cells_in (ap (λ (cs : List Config). slice_get cs (made + length events)) whole.configs ∙ get_at_seam (h.configs ++ configs) (rest_of_run m).configs (made + length events) m.config [] place one_config)
+      ap cells_in (ap (λ (cs : List Config). slice_get cs (made + length events)) whole.configs ∙ get_at_seam (h.configs ++ configs) (rest_of_run m).configs
+      (made + length events) m.config [] place one_config)
 
   memory_is : memory_after run c.region (c.count + 1) ≡ m.config.cells
   memory_is =

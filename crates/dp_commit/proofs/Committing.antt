@@ -1,10 +1,12 @@
 -- One more iteration is committed, from the pipeline or by re-execution: what is held stays the source's.
-use Rattle.std.proofs.Common.{◌≡◌, refl, sym, ap, ◌∙◌, subst, ℕ, suc, ◌+◌, ◌-◌, ◌<◌, inl, inr, true, false, if◌then◌else◌, List, [], ◌∷◌, ◌++◌, All, length, length-append, drop, Option, Some, None, slice_get, ℤ, arith}
+use Rattle.std.proofs.Common.{◌≡◌, refl, sym, ap, ◌∙◌, subst, ℕ, suc, ◌+◌, ◌-◌, ◌<◌, inl, inr, true, false, if◌then◌else◌, List, [], ◌∷◌, ◌++◌, All, length}
+use Rattle.std.proofs.Common.{length-append, drop, Option, Some, None, slice_get, ℤ, arith}
 use Rattle.std.proofs.lemmas.List.Elements.{All-weaker, All-cons, All-append}
 use Rattle.std.specs.List.{list_all}
 use Rattle.dp_tree.specs.Step.{Config, Event}
 use Rattle.dp_tree.specs.Trace.{Run}
-use Rattle.dp_tree.specs.Iteration.{stands_at_head, start, stop_from, iteration, is_closing, last_events, closes, cells_in, cells_after, memory_from, memory_after}
+use Rattle.dp_tree.specs.Iteration.{stands_at_head, start, stop_from, iteration, is_closing, last_events, closes, cells_in, cells_after, memory_from}
+use Rattle.dp_tree.specs.Iteration.{memory_after}
 use Rattle.dp_tree.specs.IterationLaws.{events_of_first}
 use Rattle.dp_tree.specs.GoesOn.{moved}
 use Rattle.dp_meaning.specs.declared.ends.Part.TheVariants as part
@@ -13,7 +15,7 @@ use Rattle.dp_meaning.specs.MachineState.{MachineState, fuel_left, rest_of_run, 
 use Rattle.dp_meaning.specs.Continues.{Continues}
 use Rattle.dp_meaning.specs.Moved.{Moved}
 use Rattle.dp_meaning.specs.IterationRun.{IterationRun, HeadsOnce, has_closed, upto_closing}
-use Rattle.dp_commit.specs.CommittedState.{CommittedState, IsOpen, Holds, IsInside, region_run, steps_of_first}
+use Rattle.dp_commit.specs.CommittedState.{CommittedState, IsOpen, HoldsCommitted, IsInside, region_run, steps_of_first}
 use Rattle.dp_commit.proofs.Lists.{get_at_seam}
 use Rattle.dp_commit.proofs.Parts.{is_off, never_plain, on_region, run_begins}
 use Rattle.dp_commit.proofs.Heads as heads
@@ -35,7 +37,7 @@ pub headed : (r : ℕ) (configs : List Config) → 0 < length configs → HeadsO
 headed r [] some h = absurd (omega (arith, some))
 headed r (c ∷ inner) some h = record { first = c; inner = inner; is = refl; on = h.0; plain = h.1 }
 
-module _ (first : MachineState) (c : CommittedState) (h : Holds first c) (o : IsOpen c) (m : MachineState) where
+module _ (first : MachineState) (c : CommittedState) (h : HoldsCommitted first c) (o : IsOpen c) (m : MachineState) where
   abbrev run : Run
   run = region_run first
 
@@ -61,7 +63,8 @@ module _ (first : MachineState) (c : CommittedState) (h : Holds first c) (o : Is
   start_then : start run c.region (i + 1) ≡ moved made (start rest c.region 1)
   start_then = (goes first c h o).started 1
 
-  module _ (before after : List ℤ) (events : List Event) (configs : List Config) (went : Moved c.machine m before after events configs) (q : Headed c.region configs) where
+  module _ (before after : List ℤ) (events : List Event) (configs : List Config) (went : Moved c.machine m before after events configs)
+      (q : Headed c.region configs) where
     piece : Continues rest events (q.first ∷ q.inner) (rest_of_run m)
     piece = subst (λ (cs : List Config). Continues rest events cs (rest_of_run m)) q.is went.run
 
@@ -84,13 +87,16 @@ module _ (first : MachineState) (c : CommittedState) (h : Holds first c) (o : Is
       size = ap length events_are ∙ length-append (events_of_first run c.region i) events
 
       whole : Continues run (events_of_first run c.region (suc i)) (h.configs ++ configs) (rest_of_run m)
-      whole = subst (λ (es : List Event). Continues run es (h.configs ++ configs) (rest_of_run m)) (sym events_are) (join run rest (rest_of_run m) (events_of_first run c.region i) events h.configs configs h.piece went.run)
+      whole = subst (λ (es : List Event). Continues run es (h.configs ++ configs) (rest_of_run m)) (sym events_are)
+          (join run rest (rest_of_run m) (events_of_first run c.region i) events h.configs configs h.piece went.run)
 
       cells_there : cells_after run (steps_of_first run c.region (suc i)) ≡ m.config.cells
       cells_there = ap cells_in (ap (λ (cs : List Config). slice_get cs (steps_of_first run c.region (suc i))) whole.configs
           ∙ get_at_seam (h.configs ++ configs) (rest_of_run m).configs (steps_of_first run c.region (suc i)) m.config begins.0 (sym whole.paired) begins.1)
 
-      held_by : m.config.cells ≡ memory_after run c.region (suc i) → start run c.region (suc i) ≡ (if stands_at_head c.region m.config then Some (steps_of_first run c.region (suc i)) else None) → Holds first (state (suc i))
+      held_by : m.config.cells ≡ memory_after run c.region (suc i) →
+          start run c.region (suc i) ≡ (if stands_at_head c.region m.config then Some (steps_of_first run c.region (suc i)) else None) →
+          HoldsCommitted first (state (suc i))
       held_by memory reached = record {
         memory = memory;
         steps = omega (arith, went.steps, h.steps, size);
@@ -114,13 +120,15 @@ module _ (first : MachineState) (c : CommittedState) (h : Holds first c) (o : Is
       start_is : start run c.region (suc i) ≡ Some (steps_of_first run c.region (suc i))
       start_is =
           (let e : suc i ≡ i + 1 = omega arith in ap (start run c.region) e) ∙ start_then
-          ∙ ap (moved made) (heads.start_there c.region rest (rest_of_run m) events q.first q.inner piece on off m.config begins.0 begins.1 at) ∙ ap Some (sym (size is_next))
+          ∙ ap (moved made) (heads.start_there c.region rest (rest_of_run m) events q.first q.inner piece on off m.config begins.0 begins.1 at)
+          ∙ ap Some (sym (size is_next))
 
-      pub onward : Holds first (state (suc i))
+      pub onward : HoldsCommitted first (state (suc i))
       onward = held_by is_next (sym (ap (λ (k : Option ℕ). memory_from run k (start run c.region (suc i - 1))) start_is ∙ cells_there is_next)) (rw at start_is)
 
     -- or the region was left
-    module _ (closed : closes events ≡ true) (last : last_events events ≡ events) (once : is_closing run c.region i ≡ true → start run c.region (i + 1) ≡ None) where
+    module _ (closed : closes events ≡ true) (last : last_events events ≡ events)
+        (once : is_closing run c.region i ≡ true → start run c.region (i + 1) ≡ None) where
       closing_here : is_closing run c.region i ≡ true
       closing_here = ap closes iteration_same ∙ heads.closing_is c.region rest (rest_of_run m) events q.first q.inner piece on off closed last
 
@@ -142,7 +150,8 @@ module _ (first : MachineState) (c : CommittedState) (h : Holds first c) (o : Is
 
       stop_is : stop_from run made None ≡ steps_of_first run c.region (suc i)
       stop_is =
-          ap (λ (es : List Event). made + length (last_events (drop made es))) (h.piece.trace ∙ ap (λ (es : List Event). events_of_first run c.region i ++ es) went.run.trace)
+          ap (λ (es : List Event). made + length (last_events (drop made es))) (h.piece.trace
+          ∙ ap (λ (es : List Event). events_of_first run c.region i ++ es) went.run.trace)
           ∙ ap (λ (es : List Event). made + length (last_events es)) (drop-append_seam (events_of_first run c.region i) (events ++ (rest_of_run m).trace))
           ∙ ap (λ (es : List Event). made + length es) (last_front events (rest_of_run m).trace closed ∙ last) ∙ sym (size is_last)
 
@@ -152,7 +161,7 @@ module _ (first : MachineState) (c : CommittedState) (h : Holds first c) (o : Is
           ∙ ap (memory_from run None) ((let e : suc i - 1 ≡ i = omega arith in ap (start run c.region) e) ∙ started first c h o)
           ∙ ap (cells_after run) stop_is ∙ cells_there is_last
 
-      pub left : Holds first (state (suc i))
+      pub left : HoldsCommitted first (state (suc i))
       left = held_by is_last (sym memory_is) (rw off_there none)
 
   counts_on : suc i ≡ i + 1
@@ -165,7 +174,7 @@ module _ (first : MachineState) (c : CommittedState) (h : Holds first c) (o : Is
   -- the next iteration's events are those of the region's own run
   pub record Made (events : List Event) : Type 0 where
     pub iteration_is : iteration run c.region i ≡ events
-    pub held : Holds first (state (c.count + 1))
+    pub held : HoldsCommitted first (state (c.count + 1))
 
   module _ (turns : ℕ) (before after : List ℤ) where
     pub held_next : (call : IterationRun c.region turns c.machine m before after Next) → Made call.events
@@ -174,10 +183,11 @@ module _ (first : MachineState) (c : CommittedState) (h : Holds first c) (o : Is
         let q = call_heads call.configs (omega (arith, some, call.moved.run.paired)) call.heads in
         record {
           iteration_is = iteration_same ∙ is_next before after call.events call.configs call.moved q call.stops.head;
-          held = subst (λ (n : ℕ). Holds first (state n)) counts_on (onward before after call.events call.configs call.moved q call.stops.head);
+          held = subst (λ (n : ℕ). HoldsCommitted first (state n)) counts_on (onward before after call.events call.configs call.moved q call.stops.head);
         }
 
-    pub held_closed : (is_closing run c.region i ≡ true → start run c.region (i + 1) ≡ None) → (call : IterationRun c.region turns c.machine m before after Closed) → Made call.events
+    pub held_closed : (is_closing run c.region i ≡ true → start run c.region (i + 1) ≡ None) →
+        (call : IterationRun c.region turns c.machine m before after Closed) → Made call.events
     held_closed once call =
         let closed : closes call.events ≡ true = ap (λ (u : Option ℕ). has_closed u call.events) (sym o.between) ∙ call.stops.closed in
         let last : last_events call.events ≡ call.events = ap (λ (u : Option ℕ). upto_closing u call.events) (sym o.between) ∙ call.stops.last in
@@ -185,5 +195,5 @@ module _ (first : MachineState) (c : CommittedState) (h : Holds first c) (o : Is
         let q = call_heads call.configs (omega (arith, some, call.moved.run.paired)) call.heads in
         record {
           iteration_is = iteration_same ∙ is_last before after call.events call.configs call.moved q closed last once;
-          held = subst (λ (n : ℕ). Holds first (state n)) counts_on (left before after call.events call.configs call.moved q closed last once);
+          held = subst (λ (n : ℕ). HoldsCommitted first (state n)) counts_on (left before after call.events call.configs call.moved q closed last once);
         }

@@ -8,7 +8,7 @@ use Rattle.dp_tree.specs.GoesOn.{GoesOnAs}
 use Rattle.dp_tree.proofs.GoesOn.{goes_on_from}
 use Rattle.dp_meaning.specs.declared.ends.Part.TheVariants as part
 use Rattle.dp_meaning.specs.MachineState.{MachineState, fuel_left, rest_of_run, part_at, part_of}
-use Rattle.dp_commit.specs.CommittedState.{CommittedState, IsOpen, Holds, region_run, steps_of_first}
+use Rattle.dp_commit.specs.CommittedState.{CommittedState, IsOpen, HoldsCommitted, region_run, steps_of_first}
 use Rattle.dp_commit.proofs.Lists.{get_at_seam}
 use Rattle.dp_commit.proofs.Parts.{on_region, run_begins}
 
@@ -17,13 +17,14 @@ pub rest_is : (first m : MachineState) (made : ℕ) → m.program ≡ first.prog
     run_of first.program first.input (fuel_left first - made) m.config ≡ rest_of_run m
 rest_is first m made p i f s =
     let left : fuel_left first - made ≡ fuel_left m = omega (arith, f, s) in
-    ap (λ (n : ℕ). run_of first.program first.input n m.config) left ∙ ap (λ (q : Program). run_of q first.input (fuel_left m) m.config) (sym p) ∙ ap (λ (is : List ℤ). run_of m.program is (fuel_left m) m.config) (sym i)
+    ap (λ (n : ℕ). run_of first.program first.input n m.config) left ∙ ap (λ (q : Program). run_of q first.input (fuel_left m) m.config) (sym p)
+    ∙ ap (λ (is : List ℤ). run_of m.program is (fuel_left m) m.config) (sym i)
 
 -- the region's condition comes next
 pub at_head : (c : CommittedState) → IsOpen c → part_of c.machine.config.to_do ≡ part.Region c.region
 at_head c o = sym (ap (λ k. part_at k c.machine.config.to_do) o.between) ∙ o.next
 
-module _ (first : MachineState) (c : CommittedState) (h : Holds first c) (o : IsOpen c) where
+module _ (first : MachineState) (c : CommittedState) (h : HoldsCommitted first c) (o : IsOpen c) where
   abbrev run : Run
   run = region_run first
 
@@ -37,10 +38,12 @@ module _ (first : MachineState) (c : CommittedState) (h : Holds first c) (o : Is
   begins = run_begins c.machine.program c.machine.input (fuel_left c.machine) c.machine.config
 
   here : slice_get run.configs made ≡ Some c.machine.config
-  here = ap (λ (cs : List Config). slice_get cs made) h.piece.configs ∙ get_at_seam h.configs (rest_of_run c.machine).configs made c.machine.config begins.0 (sym h.piece.paired) begins.1
+  here = ap (λ (cs : List Config). slice_get cs made) h.piece.configs ∙ get_at_seam h.configs (rest_of_run c.machine).configs made c.machine.config begins.0
+      (sym h.piece.paired) begins.1
 
   both : GoesOnAs c.region c.count made run (rest_of_run c.machine) × (start (rest_of_run c.machine) c.region 0 ≡ Some 0)
-  both = subst (λ (rest : Run). GoesOnAs c.region c.count made run rest × (start rest c.region 0 ≡ Some 0)) (rest_is first c.machine made h.program h.input h.fuel h.steps)
+  both = subst (λ (rest : Run). GoesOnAs c.region c.count made run rest × (start rest c.region 0 ≡ Some 0))
+      (rest_is first c.machine made h.program h.input h.fuel h.steps)
       (goes_on_from first.program first.input (fuel_left first) made c.region c.count first.config c.machine.config here started)
 
   pub goes : GoesOnAs c.region c.count made run (rest_of_run c.machine)

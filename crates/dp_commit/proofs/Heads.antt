@@ -1,5 +1,6 @@
 -- A run that begins with an iteration: the region's condition stands at its front, and not again before the rest.
-use Rattle.std.proofs.Common.{◌≡◌, refl, sym, ap, ◌∙◌, ℕ, ◌+◌, ◌-◌, ◌≤◌, Bool, true, false, List, ◌∷◌, ◌++◌, length, take, drop, Option, Some, None, slice_get, slice_range, arith}
+use Rattle.std.proofs.Common.{◌≡◌, refl, sym, ap, ◌∙◌, ℕ, ◌+◌, ◌-◌, ◌≤◌, Bool, true, false, List, ◌∷◌, ◌++◌, length, take, drop, Option, Some, None, slice_get}
+use Rattle.std.proofs.Common.{slice_range, arith}
 use Rattle.std.specs.List.{list_all}
 use Rattle.dp_tree.specs.Step.{Config, Event}
 use Rattle.dp_tree.specs.Trace.{Run}
@@ -10,7 +11,8 @@ use Rattle.dp_tree.proofs.Leaving.{closes_more}
 use Rattle.dp_commit.proofs.Parts.{is_off}
 use Rattle.dp_meaning.proofs.NextLemmas.{last_front}
 
-module _ (r : ℕ) (run rest : Run) (events : List Event) (first : Config) (inner : List Config) (c : Continues run events (first ∷ inner) rest) (on : stands_at_head r first ≡ true) (off : list_all (is_off r) inner ≡ true) where
+module _ (r : ℕ) (run rest : Run) (events : List Event) (first : Config) (inner : List Config) (c : Continues run events (first ∷ inner) rest)
+    (on : stands_at_head r first ≡ true) (off : list_all (is_off r) inner ≡ true) where
   pub starts_are : starts run r ≡ 0 ∷ places (stands_at_head r) (length events) rest.configs
   starts_are =
       let e : 1 + length inner ≡ length events = omega (arith, c.paired) in
@@ -24,7 +26,8 @@ module _ (r : ℕ) (run rest : Run) (events : List Event) (first : Config) (inne
   start_next = ap (λ (ks : List ℕ). slice_get ks 1) starts_are
 
   pub iteration_is : iteration run r 0 ≡ slice_range (events ++ rest.trace) 0 (stop_from run 0 (start run r 1))
-  iteration_is = ap (λ (k : Option ℕ). events_from run k (start run r 1)) start_is ∙ ap (λ (es : List Event). slice_range es 0 (stop_from run 0 (start run r 1))) c.trace
+  iteration_is = ap (λ (k : Option ℕ). events_from run k (start run r 1)) start_is
+      ∙ ap (λ (es : List Event). slice_range es 0 (stop_from run 0 (start run r 1))) c.trace
 
   -- the region's condition stands there again
   pub start_there : (d : Config) (more : List Config) → rest.configs ≡ d ∷ more → stands_at_head r d ≡ true → start run r 1 ≡ Some (length events)
@@ -32,13 +35,15 @@ module _ (r : ℕ) (run rest : Run) (events : List Event) (first : Config) (inne
 
   pub next_is : (d : Config) (more : List Config) → rest.configs ≡ d ∷ more → stands_at_head r d ≡ true → iteration run r 0 ≡ events
   next_is d more is there =
-      iteration_is ∙ ap (λ (k : Option ℕ). slice_range (events ++ rest.trace) 0 (stop_from run 0 k)) (start_there d more is there) ∙ range_front events rest.trace
+      iteration_is ∙ ap (λ (k : Option ℕ). slice_range (events ++ rest.trace) 0 (stop_from run 0 k)) (start_there d more is there)
+      ∙ range_front events rest.trace
 
   -- or the region was left
   module _ (closed : closes events ≡ true) (last : last_events events ≡ events) where
     stop_last : stop_from run 0 None ≡ length events
     stop_last =
-        ap (λ (es : List Event). 0 + length (last_events (drop 0 es))) c.trace ∙ ap (λ (es : List Event). 0 + length es) (last_front events rest.trace closed ∙ last)
+        ap (λ (es : List Event). 0 + length (last_events (drop 0 es))) c.trace
+        ∙ ap (λ (es : List Event). 0 + length es) (last_front events rest.trace closed ∙ last)
         ∙ (let e : 0 + length events ≡ length events = omega arith in e)
 
     stops_past : (o : Option ℕ) → start run r 1 ≡ o → length events ≤ stop_from run 0 o

@@ -1,5 +1,6 @@
 -- Lists behind a seam.
-use Rattle.std.proofs.Common.{◌≡◌, refl, ap, ◌∙◌, ℕ, zero, suc, ◌+◌, ◌-◌, ◌≤◌, Bool, true, false, not, if◌then◌else◌, List, [], ◌∷◌, ◌++◌, inl, inr, length, take, Some, slice_get, slice_range, arith}
+use Rattle.std.proofs.Common.{◌≡◌, refl, ap, ◌∙◌, ℕ, zero, suc, ◌+◌, ◌-◌, ◌≤◌, Bool, true, false, not, if◌then◌else◌, List, [], ◌∷◌, ◌++◌, inl, inr, length}
+use Rattle.std.proofs.Common.{take, Some, slice_get, slice_range, arith}
 use Rattle.std.proofs.lemmas.Bool.{cases_Bool, and_parts}
 use Rattle.std.proofs.Math.Seq.{take-append_seam}
 use Rattle.std.specs.List.{list_all}
@@ -24,10 +25,12 @@ pub range_past : {X : Type 0} (a b : List X) (k : ℕ) → length a ≤ k → sl
 range_past a b k h = let e : k - 0 ≡ k = omega arith in ap (λ (n : ℕ). take n (a ++ b)) e ∙ take_past a b k h
 
 pub range_front : {X : Type 0} (a b : List X) → slice_range (a ++ b) 0 (length a) ≡ a
-range_front a b = let e : length a - 0 ≡ length a + 0 = omega arith in ap (λ (n : ℕ). take n (a ++ b)) e ∙ (let s : length a + 0 ≡ length a = omega arith in ap (λ (n : ℕ). take n (a ++ b)) s) ∙ take-append_seam a b
+range_front a b = let e : length a - 0 ≡ length a + 0 = omega arith in
+    ap (λ (n : ℕ). take n (a ++ b)) e ∙ (let s : length a + 0 ≡ length a = omega arith in ap (λ (n : ℕ). take n (a ++ b)) s) ∙ take-append_seam a b
 
 -- none of the first list passes
-pub places_behind : {X : Type 0} (test : X → Bool) (k : ℕ) (a b : List X) → list_all (λ x. not (test x)) a ≡ true → places test k (a ++ b) ≡ places test (k + length a) b
+pub places_behind : {X : Type 0} (test : X → Bool) (k : ℕ) (a b : List X) → list_all (λ x. not (test x)) a ≡ true →
+    places test k (a ++ b) ≡ places test (k + length a) b
 places_behind test k [] b h = let e : k ≡ k + 0 = omega arith in ap (λ (n : ℕ). places test n b) e
 places_behind test k (x ∷ a) b h =
     let parts = and_parts (not (test x)) (list_all (λ y. not (test y)) a) h in

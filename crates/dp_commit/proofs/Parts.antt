@@ -22,4 +22,5 @@ abbrev pub is_off : ℕ → Config → Bool
 is_off r c = not (stands_at_head r c)
 
 pub never_plain : (r : ℕ) (configs : List Config) → All (λ c. part_of c.to_do ≡ part.Plain) configs → list_all (is_off r) configs ≡ true
-never_plain r configs h = list_all-from_AllPass (is_off r) configs (All-weaker (λ c. part_of c.to_do ≡ part.Plain) (λ c. is_off r c ≡ true) (λ c e. ap not (off_plain r c e)) configs h)
+never_plain r configs h = list_all-from_AllPass (is_off r) configs (All-weaker (λ c. part_of c.to_do ≡ part.Plain) (λ c. is_off r c ≡ true)
+    (λ c e. ap not (off_plain r c e)) configs h)

@@ -11,7 +11,7 @@ use Rattle.dp_meaning.specs.declared.ends.IterEnd.TheVariants.{Next, Closed, Fau
 use Rattle.dp_meaning.specs.Continues.{Continues}
 use Rattle.dp_meaning.specs.MachineState.{MachineState, rest_of_run, part_of, next_part}
 use Rattle.dp_meaning.specs.IterationRun.{IterationRun}
-use Rattle.dp_meaning.specs.NextIteration.{NextIteration, end_of}
+use Rattle.dp_meaning.specs.NextIteration.{NextIteration, end_of_iteration}
 
 -- a machine with the committed memory, the region, and how many of its iterations were committed
 pub record CommittedState : Type 0 where
@@ -42,7 +42,7 @@ pub record CarriesNext (c : CommittedState) (v : Carried) : Type 0 where
 -- The iteration was committed from what is carried of it: the machine stands where its steps lead.
 pub record Applied (v : Carried) (old new : CommittedState) : Type 0 where
   pub turns : ℕ
-  pub call : IterationRun old.region turns old.machine new.machine [] v.prints (end_of v.closing)
+  pub call : IterationRun old.region turns old.machine new.machine [] v.prints (end_of_iteration v.closing)
   pub rest : new ≡ record old { machine = new.machine; count = old.count + 1 }
 
 -- the count after a call that executes the current iteration
@@ -72,13 +72,14 @@ IsInside r c = (part_of c.to_do ≡ Region r) ⊎ (part_of c.to_do ≡ Plain)
 
 -- The memory and the number of steps are the source's after `count` iterations of the region, in the run that began with this machine,
 -- and what is left is the rest of that run: the region's next iteration starts there, if one does.
-pub record Holds (first : MachineState) (c : CommittedState) : Type 0 where
+pub record HoldsCommitted (first : MachineState) (c : CommittedState) : Type 0 where
   pub memory : c.machine.config.cells ≡ memory_after (region_run first) c.region c.count
   pub steps : c.machine.steps ≡ first.steps + steps_of_first (region_run first) c.region c.count
   pub configs : List Config
   pub piece : Continues (region_run first) (events_of_first (region_run first) c.region c.count) configs (rest_of_run c.machine)
   pub inside : All (IsInside c.region) configs
-  pub reached : start (region_run first) c.region c.count ≡ (if stands_at_head c.region c.machine.config then Some (steps_of_first (region_run first) c.region c.count) else None)
+  pub reached : start (region_run first) c.region c.count ≡ (if stands_at_head c.region c.machine.config
+      then Some (steps_of_first (region_run first) c.region c.count) else None)
   pub program : c.machine.program ≡ first.program
   pub input : c.machine.input ≡ first.input
   pub fuel : c.machine.fuel ≡ first.fuel

@@ -5,8 +5,9 @@ ghost use Rattle.dp_meaning.specs.MachineState.{MachineState, next_part, IsAnyRe
 ghost use Rattle.dp_meaning.specs.Moved.{Spoiled};
 ghost use Rattle.dp_meaning.specs.Watched.{WatchSpoiled, WatchedStep};
 ghost use Rattle.dp_meaning.specs.IterationRun.{IterationRun};
-ghost use Rattle.dp_meaning.specs.NextIteration.{end_of};
-ghost use Rattle.dp_commit.specs.CommittedState.{Applied, BrokeOff, CarriesNext, ClosesOnce, CommittedState, CountsSteps, Holds, IsOpen, RecoversFor, WhereEnded, count_after};
+ghost use Rattle.dp_meaning.specs.NextIteration.{end_of_iteration};
+ghost use Rattle.dp_commit.specs.CommittedState.{Applied, BrokeOff, CarriesNext, ClosesOnce, CommittedState, CountsSteps, HoldsCommitted, IsOpen, RecoversFor};
+ghost use Rattle.dp_commit.specs.CommittedState.{WhereEnded, count_after};
 
 use crate::tally::Tally;
 use crate::watch::Watch;
@@ -106,10 +107,11 @@ impl<'p> Committed<'p> {
         requires open { IsOpen self.old }
         requires next { CarriesNext self.old clean }
         requires tally { tally.old < 2 ^ 64 - 1 }
-        ensures call { (out : List ℤ) → IterationRun self.old.region clean.steps self.old.machine self.new.machine out (out ++ clean.prints) (end_of clean.closing) }
+        ensures call { (out : List ℤ) → IterationRun self.old.region clean.steps self.old.machine self.new.machine out (out ++ clean.prints)
+            (end_of_iteration clean.closing) }
         ensures rest { self.new ≡ record self.old { machine = self.new.machine; count = self.old.count + 1 } }
         ensures tally { tally.new ≡ tally.old + 1 }
-        ensures holds { (first : MachineState) → ClosesOnce first self.old.region → Holds first self.old → Holds first self.new }
+        ensures holds { (first : MachineState) → ClosesOnce first self.old.region → HoldsCommitted first self.old → HoldsCommitted first self.new }
     {
         self.machine
             .skip(clean.stores(), clean.steps(), clean.closing());
@@ -132,10 +134,12 @@ impl<'p> Committed<'p> {
     pub fn recover(&mut self, turns: u32, out: &mut Row<i64>) -> Result<IterEnd, NoMemory>
         requires next { next_part self.old.machine ≡ part.Region self.old.region }
         requires turns { 0 < turns }
-        ensures runs { MatchResult result (RecoversFor turns self.old self.new out.old out.new) (λ _. Spoiled turns self.old.machine self.new.machine out.old out.new) }
+        ensures runs { MatchResult result (RecoversFor turns self.old self.new out.old out.new)
+            (λ _. Spoiled turns self.old.machine self.new.machine out.old out.new) }
         ensures wanting { OnErr result (self.new ≡ record self.old { machine = self.new.machine }) }
         ensures spoiled { IsTrue self.old.machine.spoiled → IsErr result × (self.new ≡ self.old) × (out.new ≡ out.old) }
-        ensures holds { (first : MachineState) → ClosesOnce first self.old.region → IsOpen self.old → Holds first self.old → IfOk result (WhereEnded (Holds first self.new) (BrokeOff first self.new)) }
+        ensures holds { (first : MachineState) → ClosesOnce first self.old.region → IsOpen self.old → HoldsCommitted first self.old →
+            IfOk result (WhereEnded (HoldsCommitted first self.new) (BrokeOff first self.new)) }
     {
         let end = self.machine.iterate(turns, out)?;
         let _made = self.machine.steps();

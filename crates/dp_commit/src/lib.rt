@@ -2,10 +2,12 @@
 //! that goes on.
 #![tactic(auto)]
 
+mod chosen;
 mod committed;
 mod tally;
 mod watch;
 
+pub use chosen::{Chosen, Ran};
 pub use committed::Committed;
 pub use tally::Tally;
 pub use watch::{Progress, Unwatched, Watch};

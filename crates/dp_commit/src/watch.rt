@@ -1,4 +1,5 @@
 //! Who is told how a run goes on.
+use crate::chosen::Chosen;
 
 /// How far a run has come.
 #[derive(Clone, Copy)]
@@ -11,9 +12,12 @@ pub struct Progress {
     pub steps: u64,
 }
 
-/// What is told of each iteration, and of some steps between. Nothing that is proved depends on it.
+/// What is told of each iteration, of some steps between, and of each region. Nothing that is proved depends on it.
 pub trait Watch {
     fn went_on(&mut self, progress: Progress);
+
+    /// The region with this number was run, by these plans.
+    fn chose(&mut self, region: u32, chosen: Chosen);
 }
 
 /// Nobody.
@@ -22,4 +26,6 @@ pub struct Unwatched;
 
 impl Watch for Unwatched {
     fn went_on(&mut self, _progress: Progress) {}
+
+    fn chose(&mut self, _region: u32, _chosen: Chosen) {}
 }

@@ -9,8 +9,10 @@ use Rattle.dp_crew.proofs.StreamLemmas.{emits_ahead, emits_front, emits_on}
 module _ (w a w1 b : List ℤ) (told mid : Option (List ℕ)) (e : Emits (w ++ a) w1 told mid) where
   pub emits_both : (w2 : List ℤ) (tells : Option (List ℕ)) → Emits (w1 ++ b) w2 mid tells → Emits (w ++ (a ++ b)) w2 told tells
   emits_both w2 tells f =
-      subst (λ (xs : List ℤ). Emits xs w2 told tells) (append_assoc w a b) (emits_on ((w ++ a) ++ b) (w1 ++ b) w2 told mid tells (emits_ahead (w ++ a) w1 b told mid e) f)
+      subst (λ (xs : List ℤ). Emits xs w2 told tells) (append_assoc w a b) (emits_on ((w ++ a) ++ b) (w1 ++ b) w2 told mid tells
+      (emits_ahead (w ++ a) w1 b told mid e) f)
 
   pub front_both : (tells : Option (List ℕ)) → WritesFront (prints_bytes (w1 ++ b)) mid tells → WritesFront (prints_bytes (w ++ (a ++ b))) told tells
   front_both tells f =
-      subst (λ (xs : List ℤ). WritesFront (prints_bytes xs) told tells) (append_assoc w a b) (emits_front ((w ++ a) ++ b) (w1 ++ b) told mid tells (emits_ahead (w ++ a) w1 b told mid e) f)
+      subst (λ (xs : List ℤ). WritesFront (prints_bytes xs) told tells) (append_assoc w a b) (emits_front ((w ++ a) ++ b) (w1 ++ b) told mid tells
+      (emits_ahead (w ++ a) w1 b told mid e) f)

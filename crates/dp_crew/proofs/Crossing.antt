@@ -25,7 +25,19 @@ use Rattle.dp_pipeline.specs.contracts.unit.Kind as Kind
 use Rattle.dp_pipeline.specs.contracts.unit.Unit as Unit
 use Rattle.dp_pipeline.specs.contracts.unit.Unit.TheInside as Inside
 
-ruleset items = (line_send, line_field_send, batch_send, batch_field_send, carried_send, carried_field_send, judged_send, judged_field_send, spare_send, spare_field_send, sendable)
+ruleset items = (
+  line_send,
+  line_field_send,
+  batch_send,
+  batch_field_send,
+  carried_send,
+  carried_field_send,
+  judged_send,
+  judged_field_send,
+  spare_send,
+  spare_field_send,
+  sendable,
+)
 
 pub supply_field_send : (a : NamedLft) → IsSend (Supply.the_field a).row
 supply_field_send a = search (items, heap.the_field_send, heap.the_send, option.the_send, take_end.the_send) depth 60 fits 20000
@@ -52,7 +64,8 @@ pub target_field_send : (a : NamedLft) → IsSend (Target.the_field a).row
 target_field_send a = search (items, send_end.the_send, producer.the_send) depth 60 fits 20000
 
 pub passage_field_send : (a : NamedLft) → IsSend (Passage.the_field a).row
-passage_field_send a = let s = source_send a in let f = source_field_send a in let t = target_send a in let g = target_field_send a in search (items) depth 60 fits 20000
+passage_field_send a = let s = source_send a in let f = source_field_send a in let t = target_send a in let g = target_field_send a in
+    search (items) depth 60 fits 20000
 
 pub passage_send : (a : NamedLft) → IsSend (Passage.the_row a)
 passage_send a = recorded_send (Passage.the_field a).row _ _ (Passage.the_type a).to_one (passage_field_send a)

@@ -20,12 +20,14 @@ emits_on a b d told mid tells e f = record {
       ∙ ap (λ (x : List ℕ). appended x told) (sym (prints-split e.written f.written));
 }
 
-pub emits_front : (a b : List ℤ) (told mid tells : Option (List ℕ)) → Emits a b told mid → WritesFront (prints_bytes b) mid tells → WritesFront (prints_bytes a) told tells
+pub emits_front : (a b : List ℤ) (told mid tells : Option (List ℕ)) → Emits a b told mid → WritesFront (prints_bytes b) mid tells →
+    WritesFront (prints_bytes a) told tells
 emits_front a b told mid tells e w =
     front_behind (prints_bytes a) (prints_bytes e.written) (prints_bytes b) told mid tells (ap prints_bytes e.splits ∙ prints-split e.written b) e.sink w
 
 pub emits_ahead : (a b more : List ℤ) (told tells : Option (List ℕ)) → Emits a b told tells → Emits (a ++ more) (b ++ more) told tells
-emits_ahead a b more told tells e = record { written = e.written; splits = ap (λ (x : List ℤ). x ++ more) e.splits ∙ append_assoc e.written b more; sink = e.sink }
+emits_ahead a b more told tells e =
+    record { written = e.written; splits = ap (λ (x : List ℤ). x ++ more) e.splits ∙ append_assoc e.written b more; sink = e.sink }
 
 pub front_ahead : (a more : List ℤ) (told tells : Option (List ℕ)) → WritesFront (prints_bytes a) told tells → WritesFront (prints_bytes (a ++ more)) told tells
 front_ahead a more told tells w = rw (prints-split a more) (front_more (prints_bytes a) (prints_bytes more) told tells w)
@@ -40,11 +42,13 @@ emits_stopped prints left told tells e = record {
 }
 
 -- a front of the front of these prints
-pub front_within : (a b : List ℤ) (told tells : Option (List ℕ)) → ((more : List ℤ) × (b ≡ a ++ more)) → WritesFront (prints_bytes a) told tells → WritesFront (prints_bytes b) told tells
+pub front_within : (a b : List ℤ) (told tells : Option (List ℕ)) → ((more : List ℤ) × (b ≡ a ++ more)) → WritesFront (prints_bytes a) told tells →
+    WritesFront (prints_bytes b) told tells
 front_within a b told tells h w = subst (λ (all : List ℤ). WritesFront (prints_bytes all) told tells) (sym h.1) (front_ahead a h.0 told tells w)
 
 -- Something stopped, and this was written.
-pub streams_stopped : {X E : Type 0} (r : Result X E) (prints : List ℤ) (left : X → List ℤ) (told tells : Option (List ℕ)) → IsErr r → WritesFront (prints_bytes prints) told tells → Streams r prints left told tells
+pub streams_stopped : {X E : Type 0} (r : Result X E) (prints : List ℤ) (left : X → List ℤ) (told tells : Option (List ℕ)) → IsErr r →
+    WritesFront (prints_bytes prints) told tells → Streams r prints left told tells
 streams_stopped (Ok x) prints left told tells h w = absurd (cc)
 streams_stopped (Err stop) prints left told tells h w = w
 

@@ -1,7 +1,7 @@
 //! An epoch from its beginning to its end.
 ghost use Rattle.std.specs.Prelude.{◌≡◌, ◌<◌, ◌≤◌, ◌+◌, ◌-◌, ◌^◌, IfOk};
 ghost use Rattle.dp_meaning.specs.MachineState.{MachineState};
-ghost use Rattle.dp_epoch.specs.Applied.{HasRoom, left_of};
+ghost use Rattle.dp_epoch.specs.Applied.{HasRoomForVerdicts, steps_left};
 ghost use Rattle.dp_epoch.specs.InEpoch.{ToBegin};
 ghost use Rattle.dp_crew.specs.EpochRan.{EpochRan, made_at_least};
 
@@ -30,9 +30,11 @@ pub(crate) fn run_one_epoch<'p, 'v, 'u, E, R: Wait + Clock + Sync, K: Sink, G: G
     requires fuel { ledger.committed.machine.fuel ≤ 1000000000 }
     requires sink { K.faults sink.old < 2 ^ 64 - 1 }
     requires epoch { (first : MachineState) × ToBegin work.region.now.program work.region.now.plan work.input.now first ledger.committed ledger.account }
-    requires room { HasRoom tally.old ledger.committed }
-    ensures ran { EpochRan (λ first. ToBegin work.entry.region.now.program work.entry.region.now.plan work.entry.input.now first ledger.entry.committed ledger.entry.account) work.entry.region.now.plan ledger.entry result (K.faults sink.old) (K.faults sink.new) (K.written sink.old) (K.written sink.new) tally.old tally.new }
-    ensures falls { IfOk result (λ r. left_of r.0.committed + made_at_least r.1 ≤ left_of ledger.entry.committed) }
+    requires room { HasRoomForVerdicts tally.old ledger.committed }
+    ensures ran { EpochRan (λ first. ToBegin work.entry.region.now.program work.entry.region.now.plan work.entry.input.now first ledger.entry.committed
+        ledger.entry.account) work.entry.region.now.plan ledger.entry result (K.faults sink.old) (K.faults sink.new) (K.written sink.old) (K.written sink.new)
+        tally.old tally.new }
+    ensures falls { IfOk result (λ r. steps_left r.0.committed + made_at_least r.1 ≤ steps_left ledger.entry.committed) }
 {
     let followed = follow_ahead(work, Way::OneStage, crew, ledger, sink, tally)?;
     run_behind(work, crew, followed, sink, tally)
@@ -49,9 +51,11 @@ fn run_behind<'p, 'v, 'u, E, R: Wait + Clock + Sync, K: Sink, G: Gate, W: Watch>
     requires fuel { ledger.committed.machine.fuel ≤ 1000000000 }
     requires sink { K.faults sink.old < 2 ^ 64 - 1 }
     requires epoch { (first : MachineState) × ToBegin work.region.now.program work.region.now.plan work.input.now first ledger.committed ledger.account }
-    requires room { HasRoom tally.old ledger.committed }
-    ensures ran { EpochRan (λ first. ToBegin work.entry.region.now.program work.entry.region.now.plan work.entry.input.now first ledger.entry.committed ledger.entry.account) work.entry.region.now.plan ledger.entry result (K.faults sink.old) (K.faults sink.new) (K.written sink.old) (K.written sink.new) tally.old tally.new }
-    ensures falls { IfOk result (λ r. left_of r.0.committed + made_at_least r.1 ≤ left_of ledger.entry.committed) }
+    requires room { HasRoomForVerdicts tally.old ledger.committed }
+    ensures ran { EpochRan (λ first. ToBegin work.entry.region.now.program work.entry.region.now.plan work.entry.input.now first ledger.entry.committed
+        ledger.entry.account) work.entry.region.now.plan ledger.entry result (K.faults sink.old) (K.faults sink.new) (K.written sink.old) (K.written sink.new)
+        tally.old tally.new }
+    ensures falls { IfOk result (λ r. steps_left r.0.committed + made_at_least r.1 ≤ steps_left ledger.entry.committed) }
 {
     let followed = follow_ahead(work, Way::WholeLoops, crew, ledger, sink, tally)?;
     run_own_epoch(work, crew, followed, sink, tally)
@@ -68,9 +72,11 @@ fn run_own_epoch<'p, 'v, 'u, E, R: Wait + Clock + Sync, K: Sink, G: Gate, W: Wat
     requires fuel { ledger.committed.machine.fuel ≤ 1000000000 }
     requires sink { K.faults sink.old < 2 ^ 64 - 1 }
     requires epoch { (first : MachineState) × ToBegin work.region.now.program work.region.now.plan work.input.now first ledger.committed ledger.account }
-    requires room { HasRoom tally.old ledger.committed }
-    ensures ran { EpochRan (λ first. ToBegin work.entry.region.now.program work.entry.region.now.plan work.entry.input.now first ledger.entry.committed ledger.entry.account) work.entry.region.now.plan ledger.entry result (K.faults sink.old) (K.faults sink.new) (K.written sink.old) (K.written sink.new) tally.old tally.new }
-    ensures falls { IfOk result (λ r. left_of r.0.committed + made_at_least r.1 ≤ left_of ledger.entry.committed) }
+    requires room { HasRoomForVerdicts tally.old ledger.committed }
+    ensures ran { EpochRan (λ first. ToBegin work.entry.region.now.program work.entry.region.now.plan work.entry.input.now first ledger.entry.committed
+        ledger.entry.account) work.entry.region.now.plan ledger.entry result (K.faults sink.old) (K.faults sink.new) (K.written sink.old) (K.written sink.new)
+        tally.old tally.new }
+    ensures falls { IfOk result (λ r. steps_left r.0.committed + made_at_least r.1 ≤ steps_left ledger.entry.committed) }
 {
     let mut setter = StopSetter::new(work.alloc)?;
     let (begun, lent) = (&ledger, &mut setter);
@@ -84,7 +90,7 @@ fn run_own_epoch<'p, 'v, 'u, E, R: Wait + Clock + Sync, K: Sink, G: Gate, W: Wat
         lent,
     )?;
     let mut polled = verdicts.polling(units);
-    crew.begin();
+    crew.begin(None);
     let end = run_epoch(
         crew,
         work.alloc,
@@ -94,6 +100,6 @@ fn run_own_epoch<'p, 'v, 'u, E, R: Wait + Clock + Sync, K: Sink, G: Gate, W: Wat
         sink,
         tally,
     );
-    crew.end(setter);
+    crew.end(None, setter);
     end
 }

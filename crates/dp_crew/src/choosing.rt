@@ -3,14 +3,26 @@
 /// So many iterations are followed before the plan is tried.
 const FOLLOWED: u32 = 4_096;
 
+/// .. or fewer, once they have taken so many nanoseconds, by a clock that is looked at behind the first so many, and each time that they are
+/// twice as many.
+const LONG: u64 = 5_000_000;
+
+const FIRST: u32 = 32;
+
 /// The first so many of an epoch are not timed: its units go to their threads, and the lanes between them are filled.
 const SETTLING: u32 = 2_048;
 
-/// The plan is tried for so many verdicts at most.
+/// The plan is tried for so many verdicts at most, or for some, once they have taken so many nanoseconds.
 const TRIED: u32 = 1_024;
 
-/// The first so many of these fill its pipeline.
+const SOME: u32 = 64;
+
+const ENOUGH: u64 = 4_000_000;
+
+/// The first so many of these fill its pipeline, or those of so many nanoseconds.
 const FILLING: u32 = 256;
+
+const FILLED: u64 = 1_000_000;
 
 /// What was quicker goes on for so many verdicts.
 const SPAN: u32 = 65_536;
@@ -25,7 +37,7 @@ const LONGEST: u32 = 4_096;
 const SLACK: u64 = 100_000;
 
 /// How a region's iterations are followed.
-#[derive(Clone, Copy)]
+#[derive(Clone, Copy, PartialEq, Eq)]
 pub(crate) enum Way {
     /// By the one-stage form of its plan.
     OneStage,
@@ -51,9 +63,10 @@ pub(crate) struct Choice {
     /// How many iterations of the epoch under way were followed, and behind how many of them it is timed.
     here: u32,
     settled: u32,
-    /// The plan is tried, and so many of its verdicts came.
+    /// The plan is tried, and so many of its verdicts came, of which so many filled its pipeline.
     trying: bool,
     tried: u32,
+    filling: u32,
     /// When the epoch or the trial under way began, and when the trial's pipeline was filled.
     begun: u64,
     filled: u64,
@@ -73,6 +86,7 @@ impl Choice {
             settled: 0,
             trying: false,
             tried: 0,
+            filling: 0,
             begun: 0,
             filled: 0,
         }
@@ -91,32 +105,48 @@ impl Choice {
         self.trying
     }
 
-    /// An epoch of the run plan begins now.
-    pub(crate) fn begin(&mut self, now: u64) {
-        self.here = 0;
-        self.settled = 0;
-        self.begun = now;
+    /// An epoch begins now, in this way of following or by the region's own plan. One of the run plan is timed.
+    pub(crate) fn begin(&mut self, way: Option<Way>, now: u64) {
+        if let Some(Way::OneStage) = way {
+            self.here = 0;
+            self.settled = 0;
+            self.begun = now;
+        }
     }
 
-    /// Whether the epoch of the run plan is timed from here on.
-    pub(crate) fn settles(&self) -> bool {
-        self.here == SETTLING
-    }
-
-    /// It is timed from now on.
-    pub(crate) fn settle(&mut self, now: u64) {
-        self.settled = self.here;
-        self.begun = now;
-    }
-
-    /// One more iteration was followed. Whether the next one is.
-    pub(crate) fn follows_on(&mut self) -> bool {
+    /// One more iteration was followed.
+    pub(crate) fn follow(&mut self) {
         self.here = self.here.saturating_add(1);
+    }
+
+    /// Whether the clock is to be looked at.
+    pub(crate) fn looks(&self) -> bool {
+        self.here >= FIRST && self.here <= SETTLING && self.here.is_power_of_two()
+    }
+
+    /// What is followed is timed from the last look on. Where it has taken long by now, the plan is tried at once.
+    pub(crate) fn look(&mut self, now: u64) {
+        if self.here >= SETTLING {
+            self.settled = self.here;
+            self.begun = now;
+        } else if self.to_follow == FOLLOWED && now.saturating_sub(self.begun) >= LONG {
+            self.to_follow = self.here;
+        }
+    }
+
+    /// Whether the next iteration is followed.
+    pub(crate) fn follows_on(&self) -> bool {
         self.here < self.to_follow
     }
 
-    /// The epoch of the run plan is over now. At least one verdict of the plan comes.
-    pub(crate) fn end(&mut self, now: u64) {
+    /// The epoch is over now. Behind one of the run plan at least one verdict of the plan comes.
+    pub(crate) fn end(&mut self, way: Option<Way>, now: u64) {
+        if let Some(Way::OneStage) = way {
+            self.end_run(now);
+        }
+    }
+
+    fn end_run(&mut self, now: u64) {
         let timed = self.here.saturating_sub(self.settled);
         self.followed = self.followed.saturating_add(timed);
         self.spent = self.spent.saturating_add(now.saturating_sub(self.begun));
@@ -140,7 +170,9 @@ impl Choice {
         if self.may_try {
             self.trying = true;
             self.tried = 0;
+            self.filling = 0;
             self.begun = now;
+            self.filled = now;
             self.to_take = TRIED;
         } else {
             self.to_follow = u32::MAX;
@@ -156,9 +188,10 @@ impl Choice {
     /// One more verdict of a trial came now. Whether its epoch goes on.
     pub(crate) fn tries_on(&mut self, now: u64) -> bool {
         self.tried = self.tried.saturating_add(1);
-        if self.tried <= FILLING {
+        if self.is_filling(now) {
+            self.filling = self.tried;
             self.filled = now;
-        } else if self.tried >= TRIED {
+        } else if self.is_tried(now) {
             let quicker = self.is_quicker(now);
             self.end_trial(quicker);
         } else if self.is_slow(now) {
@@ -181,20 +214,35 @@ impl Choice {
         }
     }
 
+    /// Whether the trial's pipeline fills still: its threads end what they had under way, and its first batches are small.
+    fn is_filling(&self, now: u64) -> bool {
+        let soon = now.saturating_sub(self.begun) < FILLED;
+        self.tried <= FEW || (soon && self.tried <= FILLING)
+    }
+
+    /// How many verdicts of the trial came behind those that filled its pipeline.
+    fn timed(&self) -> u32 {
+        self.tried.saturating_sub(self.filling)
+    }
+
+    /// Whether the trial has shown enough.
+    fn is_tried(&self, now: u64) -> bool {
+        let long = now.saturating_sub(self.filled) >= ENOUGH;
+        self.tried >= TRIED || (long && self.timed() >= SOME)
+    }
+
     /// Whether a verdict of the trial took less time than an iteration that was followed.
     fn is_quicker(&self, now: u64) -> bool {
         let took = now.saturating_sub(self.filled);
-        let timed = u64::from(self.tried.saturating_sub(FILLING));
+        let timed = u64::from(self.timed());
         took.saturating_mul(u64::from(self.followed)) < self.spent.saturating_mul(timed)
     }
 
-    /// Whether the trial has taken twice the time of following already.
+    /// Whether the trial has taken twice the time of following already. Verdicts come by batches, so that a few may be late.
     fn is_slow(&self, now: u64) -> bool {
-        let took = now.saturating_sub(self.begun).saturating_sub(SLACK);
-        let limit = self
-            .spent
-            .saturating_mul(u64::from(self.tried))
-            .saturating_mul(2);
+        let took = now.saturating_sub(self.filled).saturating_sub(SLACK);
+        let timed = u64::from(self.timed().saturating_add(FEW));
+        let limit = self.spent.saturating_mul(timed).saturating_mul(2);
         took.saturating_mul(u64::from(self.followed)) > limit
     }
 }

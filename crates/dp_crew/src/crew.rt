@@ -2,18 +2,27 @@
 ghost use Rattle.std.specs.Prelude.{◌≡◌, true};
 
 use crate::choosing::{Choice, Way};
+use crate::clock::nanoseconds;
+use crate::counting::Counts;
 use crate::threads::start;
-use crate::trays::{Tray, lay};
+use crate::trays::{Tray, lay, to_hand};
+use crate::work::Work;
+use dp_commit::{Tally, Watch};
 use dp_edge::Gate;
 use dp_pipeline::LaneVerdicts;
 use dp_stop::StopSetter;
 use dp_waiting::{Bell, Pause, ring_all, ring_at};
 use std::sync::Wait;
 use std::thread::Scope;
-use std::time::{Clock, Duration};
+use std::time::Clock;
 
 /// So many verdicts of an epoch the caller awaits alone: an epoch that breaks early isn't worth waking threads for.
 const ALONE: u32 = 256;
+
+/// .. and for so many nanoseconds at most, by a clock that is looked at behind the first few, and each time that they are twice as many.
+const PATIENCE: u64 = 200_000;
+
+const FEW: u32 = 4;
 
 /// A tray and a bell for each thread that a region may have, and the scope of these threads, which are started when units are
 /// handed over for the first time.
@@ -24,12 +33,15 @@ pub(crate) struct Crew<'s, 'u, E, R, G> {
     trays: &'s [Tray<'u>],
     /// One for each tray, and one for the caller behind them; or none of these where the caller is alone.
     bells: &'u [Bell],
-    /// How many of the first trays have no thread, once the threads were started.
-    alone: Option<usize>,
-    /// How many verdicts of the epoch were awaited.
+    /// How many of the first trays have no thread, and whether none can be started any more.
+    alone: usize,
+    refused: bool,
+    /// How many verdicts of the epoch were awaited, and since when.
     awaited: u32,
+    since: u64,
     /// Whether the region is run by a run plan, where it has one.
     choice: Choice,
+    counts: Counts,
 }
 
 // By hand, so that it isn't proved again how all that is lent to it is dropped.
@@ -42,30 +54,37 @@ impl<'s, 'u, E, R, G> Drop for Crew<'s, 'u, E, R, G> {
             trays: _,
             bells: _,
             alone: _,
+            refused: _,
             awaited: _,
+            since: _,
             choice: _,
+            counts: _,
         } = self;
     }
 }
 
 impl<'s, 'u, E, R: Wait + Clock + Sync, G: Gate> Crew<'s, 'u, E, R, G> {
-    /// None of the threads is started.
-    pub(crate) fn new(
+    /// A region begins. None of the threads is started.
+    pub(crate) fn new<W: Watch>(
+        work: Work<'u, '_>,
         scope: &'s Scope<'s, E>,
         rt: &'s R,
         gate: &'s G,
         trays: &'s [Tray<'u>],
-        bells: &'u [Bell],
+        tally: &Tally<W>,
     ) -> Crew<'s, 'u, E, R, G> {
         Crew {
             scope,
             rt,
             gate,
             trays,
-            bells,
-            alone: None,
+            bells: work.bells,
+            alone: trays.len(),
+            refused: false,
             awaited: 0,
-            choice: Choice::new(!bells.is_empty()),
+            since: 0,
+            choice: Choice::new(!work.bells.is_empty()),
+            counts: Counts::new(tally, nanoseconds(rt)),
         }
     }
 
@@ -79,20 +98,19 @@ impl<'s, 'u, E, R: Wait + Clock + Sync, G: Gate> Crew<'s, 'u, E, R, G> {
         self.choice.follows(way)
     }
 
-    /// An epoch of a run plan begins.
-    pub(crate) fn begin_following(&mut self, way: Way) {
-        match way {
-            Way::OneStage => {
-                self.awaited = 0;
-                let now = nanoseconds(self.rt);
-                self.choice.begin(now);
-            }
-            Way::WholeLoops => self.begin(),
-        }
+    /// An epoch of the region's own plan begins, or one in this way of following, and the caller is alone. Where the plan is
+    /// tried, its units go to the threads at once.
+    pub(crate) fn begin(&mut self, way: Option<Way>) {
+        let now = nanoseconds(self.rt);
+        self.counts.begin(way, now);
+        self.choice.begin(way, now);
+        self.awaited = if self.choice.is_trying() { ALONE } else { 0 };
+        self.since = now;
     }
 
     /// One more iteration was followed. Whether the next one is.
     pub(crate) fn follows_on(&mut self, way: Way) -> bool {
+        self.counts.follow();
         match way {
             Way::OneStage => self.goes_on(),
             Way::WholeLoops => self.takes_on(),
@@ -100,26 +118,18 @@ impl<'s, 'u, E, R: Wait + Clock + Sync, G: Gate> Crew<'s, 'u, E, R, G> {
     }
 
     fn goes_on(&mut self) -> bool {
-        let on = self.choice.follows_on();
-        if self.choice.settles() {
+        self.choice.follow();
+        if self.choice.looks() {
             let now = nanoseconds(self.rt);
-            self.choice.settle(now);
+            self.choice.look(now);
         }
-        on
+        self.choice.follows_on()
     }
 
-    /// The epoch of a run plan is over.
-    pub(crate) fn end_following(&mut self, way: Way, setter: StopSetter) {
-        if let Way::OneStage = way {
-            let now = nanoseconds(self.rt);
-            self.choice.end(now);
-        }
-        self.end(setter);
-    }
-
-    /// An epoch of the plan begins, and the caller is alone. Where the plan is tried, its units go to the threads at once.
-    pub(crate) fn begin(&mut self) {
-        self.awaited = if self.choice.is_trying() { ALONE } else { 0 };
+    /// The caller has awaited verdicts alone for long.
+    fn is_patient_no_more(&self) -> bool {
+        let looks = self.awaited >= FEW && self.awaited < ALONE && self.awaited.is_power_of_two();
+        looks && nanoseconds(self.rt).saturating_sub(self.since) >= PATIENCE
     }
 
     /// One more iteration of the epoch is committed. Whether the epoch is left, if it may be.
@@ -142,6 +152,9 @@ impl<'s, 'u, E, R: Wait + Clock + Sync, G: Gate> Crew<'s, 'u, E, R, G> {
     pub(crate) fn await_one(&mut self, verdicts: &mut LaneVerdicts<'u>)
         ensures { verdicts.new ≡ verdicts.old }
     {
+        if self.is_patient_no_more() {
+            self.awaited = ALONE;
+        }
         if self.awaited == ALONE {
             verdicts.wait_by(Pause::at(self.bells, self.trays.len()));
             self.hand_over(verdicts);
@@ -149,25 +162,42 @@ impl<'s, 'u, E, R: Wait + Clock + Sync, G: Gate> Crew<'s, 'u, E, R, G> {
         self.awaited = self.awaited.saturating_add(1);
     }
 
-    /// Hands the units that have a thread over to it, from the last one on. The others stay with the verdicts.
+    /// Hands the units that have a thread over to it. The others stay with the verdicts; so does the judging of a single stage,
+    /// which takes no longer than committing what it tells.
     fn hand_over(&mut self, verdicts: &mut LaneVerdicts<'u>)
         ensures { verdicts.new ≡ verdicts.old }
     {
-        let alone = self.started();
+        let handed = to_hand(verdicts);
+        let alone = self.started(self.trays.len().saturating_sub(handed));
+        self.hand_from(alone, verdicts);
+    }
+
+    /// Hands units to the threads of the trays from this one on, from the last one on.
+    fn hand_from(&self, alone: usize, verdicts: &mut LaneVerdicts<'u>)
+        ensures { verdicts.new ≡ verdicts.old }
+    {
         let last = self.trays.len().saturating_sub(1);
         for done in alone..self.trays.len() {
             self.hand_last(last.saturating_sub(done.saturating_sub(alone)), verdicts);
         }
     }
 
-    /// Starts the threads, if they aren't yet. Answers how many of the first trays have none.
-    fn started(&mut self) -> usize {
-        if let Some(alone) = self.alone {
-            return alone;
+    /// Starts the threads of the trays from this one on, as far as they aren't yet. Answers from which one on they have one.
+    fn started(&mut self, first: usize) -> usize {
+        for _ in first..self.alone {
+            if self.refused {
+                break;
+            }
+            let place = self.alone.saturating_sub(1);
+            if start(
+                self.scope, self.rt, self.trays, self.bells, place, self.gate,
+            ) {
+                self.alone = place;
+            } else {
+                self.refused = true;
+            }
         }
-        let alone = start(self.scope, self.rt, self.trays, self.bells, self.gate);
-        self.alone = Some(alone);
-        alone
+        self.alone.max(first)
     }
 
     /// Hands the last unit over to the thread of its place. What lies in the tray still is of an epoch that is over, and is
@@ -185,7 +215,10 @@ impl<'s, 'u, E, R: Wait + Clock + Sync, G: Gate> Crew<'s, 'u, E, R, G> {
     }
 
     /// The epoch is over: its units that were handed over end.
-    pub(crate) fn end(&self, mut setter: StopSetter) {
+    pub(crate) fn end(&mut self, way: Option<Way>, mut setter: StopSetter) {
+        let now = nanoseconds(self.rt);
+        self.counts.end(now);
+        self.choice.end(way, now);
         if self.awaited > ALONE {
             setter.set(self.rt);
             ring_all(self.bells);
@@ -198,18 +231,12 @@ impl<'s, 'u, E, R: Wait + Clock + Sync, G: Gate> Crew<'s, 'u, E, R, G> {
             bell.close();
         }
     }
-}
 
-/// What the clock shows, or 0 where it fails.
-fn nanoseconds<R: Clock>(rt: &R) -> u64 {
-    match rt.monotonic() {
-        Ok(past) => nanoseconds_of(past),
-        Err(_) => 0,
+    /// Tells by which plans the region was run.
+    pub(crate) fn tell<W: Watch>(&self, region: u32, tally: &mut Tally<W>)
+        ensures { tally.new ≡ tally.old }
+    {
+        let chosen = self.counts.all(tally, nanoseconds(self.rt));
+        tally.chose(region, chosen);
     }
-}
-
-fn nanoseconds_of(past: Duration) -> u64 {
-    past.as_secs()
-        .saturating_mul(1_000_000_000)
-        .saturating_add(u64::from(past.subsec_nanos()))
 }

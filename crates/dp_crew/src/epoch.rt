@@ -2,7 +2,7 @@
 ghost use Rattle.std.specs.Prelude.{◌≡◌, ◌<◌, ◌≤◌, ◌+◌, ◌-◌, ◌^◌, true, IfOk};
 ghost use Rattle.dp_run_plan.specs.RunPlan.{hides_nothing};
 ghost use Rattle.dp_meaning.specs.MachineState.{MachineState};
-ghost use Rattle.dp_epoch.specs.Applied.{HasRoom, left_of};
+ghost use Rattle.dp_epoch.specs.Applied.{HasRoomForVerdicts, steps_left};
 ghost use Rattle.dp_crew.specs.EpochRan.{EpochRan, made_at_least};
 ghost use Rattle.dp_epoch.specs.InEpoch.{InEpoch};
 
@@ -30,9 +30,10 @@ pub(crate) fn run_epoch<'p, 'v, 'u, E, R: Wait + Clock + Sync, K: Sink, G: Gate,
     requires sink { K.faults sink.old < 2 ^ 64 - 1 }
     requires epoch { (first : MachineState) × InEpoch verdicts.old.key verdicts.old.given first ledger.committed ledger.account }
     requires leaving { may_leave ≡ true → hides_nothing verdicts.old.key.program verdicts.old.key.plan ≡ true }
-    requires room { HasRoom tally.old ledger.committed }
-    ensures ran { EpochRan (λ first. InEpoch verdicts.old.key verdicts.old.given first ledger.entry.committed ledger.entry.account) verdicts.old.key.plan ledger.entry result (K.faults sink.old) (K.faults sink.new) (K.written sink.old) (K.written sink.new) tally.old tally.new }
-    ensures falls { IfOk result (λ r. left_of r.0.committed + made_at_least r.1 ≤ left_of ledger.entry.committed) }
+    requires room { HasRoomForVerdicts tally.old ledger.committed }
+    ensures ran { EpochRan (λ first. InEpoch verdicts.old.key verdicts.old.given first ledger.entry.committed ledger.entry.account) verdicts.old.key.plan
+        ledger.entry result (K.faults sink.old) (K.faults sink.new) (K.written sink.old) (K.written sink.new) tally.old tally.new }
+    ensures falls { IfOk result (λ r. steps_left r.0.committed + made_at_least r.1 ≤ steps_left ledger.entry.committed) }
     ensures key { verdicts.new.key ≡ verdicts.old.key }
 {
     let rt = crew.rt();

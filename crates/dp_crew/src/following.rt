@@ -4,8 +4,8 @@ ghost use Rattle.dp_plan.specs.declared.Plan.{Plan};
 ghost use Rattle.dp_prepared.specs.Planned.{IsPlanned};
 ghost use Rattle.dp_run_plan.specs.Others.{RunsAs};
 ghost use Rattle.dp_meaning.specs.MachineState.{MachineState};
-ghost use Rattle.dp_epoch.specs.Applied.{HasRoom};
-ghost use Rattle.dp_epoch.specs.Followed.{Follows, IsFollowed};
+ghost use Rattle.dp_epoch.specs.Applied.{HasRoomForVerdicts};
+ghost use Rattle.dp_epoch.specs.Followed.{FollowsVerdict, IsFollowed};
 ghost use Rattle.dp_epoch.specs.InEpoch.{ToBegin};
 ghost use Rattle.dp_crew.specs.EpochRan.{HasFollowed};
 
@@ -37,8 +37,10 @@ pub(crate) fn follow_ahead<'p, 'v, 'u, E, R: Wait + Clock + Sync, K: Sink, G: Ga
     requires fuel { ledger.committed.machine.fuel ≤ 1000000000 }
     requires sink { K.faults sink.old < 2 ^ 64 - 1 }
     requires epoch { (first : MachineState) × ToBegin work.region.now.program work.region.now.plan work.input.now first ledger.committed ledger.account }
-    requires room { HasRoom tally.old ledger.committed }
-    ensures followed { HasFollowed (λ first. ToBegin work.entry.region.now.program work.entry.region.now.plan work.entry.input.now first ledger.entry.committed ledger.entry.account) work.entry.region.now.plan ledger.entry result (K.faults sink.old) (K.faults sink.new) (K.written sink.old) (K.written sink.new) tally.old tally.new }
+    requires room { HasRoomForVerdicts tally.old ledger.committed }
+    ensures followed { HasFollowed (λ first. ToBegin work.entry.region.now.program work.entry.region.now.plan work.entry.input.now first ledger.entry.committed
+        ledger.entry.account) work.entry.region.now.plan ledger.entry result (K.faults sink.old) (K.faults sink.new) (K.written sink.old) (K.written sink.new)
+        tally.old tally.new }
 {
     match work.other(way) {
         Some(other) => follow_epoch(work, other, way, crew, ledger, sink, tally),
@@ -60,8 +62,10 @@ fn follow_epoch<'p, 'v, 'u, E, R: Wait + Clock + Sync, K: Sink, G: Gate, W: Watc
     requires sink { K.faults sink.old < 2 ^ 64 - 1 }
     requires epoch { (first : MachineState) × ToBegin work.region.now.program work.region.now.plan work.input.now first ledger.committed ledger.account }
     requires other { RunsAs work.region.now other.now }
-    requires room { HasRoom tally.old ledger.committed }
-    ensures followed { HasFollowed (λ first. ToBegin work.entry.region.now.program work.entry.region.now.plan work.entry.input.now first ledger.entry.committed ledger.entry.account) work.entry.region.now.plan ledger.entry result (K.faults sink.old) (K.faults sink.new) (K.written sink.old) (K.written sink.new) tally.old tally.new }
+    requires room { HasRoomForVerdicts tally.old ledger.committed }
+    ensures followed { HasFollowed (λ first. ToBegin work.entry.region.now.program work.entry.region.now.plan work.entry.input.now first ledger.entry.committed
+        ledger.entry.account) work.entry.region.now.plan ledger.entry result (K.faults sink.old) (K.faults sink.new) (K.written sink.old) (K.written sink.new)
+        tally.old tally.new }
 {
     if !crew.follows(way) {
         return Ok(ledger);
@@ -74,7 +78,7 @@ fn follow_epoch<'p, 'v, 'u, E, R: Wait + Clock + Sync, K: Sink, G: Gate, W: Watc
     )?;
     let mut polled = verdicts.polling(units);
     let words = work.region.plan().words;
-    crew.begin_following(way);
+    crew.begin(Some(way));
     let followed = follow_verdicts(
         crew,
         way,
@@ -85,7 +89,7 @@ fn follow_epoch<'p, 'v, 'u, E, R: Wait + Clock + Sync, K: Sink, G: Gate, W: Watc
         sink,
         tally,
     );
-    crew.end_following(way, setter);
+    crew.end(Some(way), setter);
     followed
 }
 
@@ -105,11 +109,12 @@ fn follow_next<'u, E, R: Wait + Clock + Sync, G: Gate, W: Watch>(
     ledger: &mut Ledger<'_, '_>,
     tally: &mut Tally<W>,
 ) -> Result<Followed, NoMemory>
-    requires epoch { (plan : Plan) × (first : MachineState) × IsFollowed plan verdicts.old.key verdicts.old.given first ledger.old.committed ledger.old.account × (words ≡ plan.words) }
-    requires room { HasRoom tally.old ledger.old.committed }
+    requires epoch { (plan : Plan) × (first : MachineState) × IsFollowed plan verdicts.old.key verdicts.old.given first ledger.old.committed ledger.old.account
+        × (words ≡ plan.words) }
+    requires room { HasRoomForVerdicts tally.old ledger.old.committed }
     ensures key { verdicts.new.key ≡ verdicts.old.key }
     ensures given { verdicts.new.given ≡ verdicts.old.given + 1 }
-    ensures followed { IfOk result (λ followed. Follows words verdicts.old.key verdicts.old.given ledger.old ledger.new followed tally.old tally.new) }
+    ensures followed { IfOk result (λ followed. FollowsVerdict words verdicts.old.key verdicts.old.given ledger.old ledger.new followed tally.old tally.new) }
 {
     let rt = crew.rt();
     crew.await_one(verdicts);
@@ -129,9 +134,12 @@ fn follow_verdicts<'p, 'v, 'u, E, R: Wait + Clock + Sync, K: Sink, G: Gate, W: W
     tally: &mut Tally<W>,
 ) -> Result<Ledger<'p, 'v>, WriteFail>
     requires sink { K.faults sink.old < 2 ^ 64 - 1 }
-    requires epoch { (plan : Plan) × (first : MachineState) × IsFollowed plan verdicts.old.key verdicts.old.given first ledger.committed ledger.account × (words ≡ plan.words) }
-    requires room { HasRoom tally.old ledger.committed }
-    ensures followed { (plan : Plan) → words ≡ plan.words → HasFollowed (λ first. IsFollowed plan verdicts.old.key verdicts.old.given first ledger.entry.committed ledger.entry.account) plan ledger.entry result (K.faults sink.old) (K.faults sink.new) (K.written sink.old) (K.written sink.new) tally.old tally.new }
+    requires epoch { (plan : Plan) × (first : MachineState) × IsFollowed plan verdicts.old.key verdicts.old.given first ledger.committed ledger.account
+        × (words ≡ plan.words) }
+    requires room { HasRoomForVerdicts tally.old ledger.committed }
+    ensures followed { (plan : Plan) → words ≡ plan.words →
+        HasFollowed (λ first. IsFollowed plan verdicts.old.key verdicts.old.given first ledger.entry.committed ledger.entry.account) plan ledger.entry result
+        (K.faults sink.old) (K.faults sink.new) (K.written sink.old) (K.written sink.new) tally.old tally.new }
 {
     'verdicts: loop {
         let followed = follow_next(crew, alloc, words, verdicts, &mut ledger, tally)?;

@@ -3,6 +3,8 @@
 
 mod begun;
 mod choosing;
+mod clock;
+mod counting;
 mod crew;
 mod epoch;
 mod epochs;

@@ -26,10 +26,12 @@ pub(crate) fn recover_to_end<K: Sink>(
     requires sink { K.faults sink.old < 2 ^ 64 - 1 }
     requires next { next_part ledger.old.committed.machine ≡ Region ledger.old.committed.region }
     ensures faults { FaultsAfter result (K.faults sink.old) (K.faults sink.new) }
-    ensures ok { IfOk result (λ end. (printed : List ℤ) × Remade ledger.old.committed ledger.new.committed printed (iteration_end end) × Emits (ledger.old.waiting ++ printed) ledger.new.waiting (K.written sink.old) (K.written sink.new)) }
+    ensures ok { IfOk result (λ end. (printed : List ℤ) × Remade ledger.old.committed ledger.new.committed printed (iteration_end end)
+        × Emits (ledger.old.waiting ++ printed) ledger.new.waiting (K.written sink.old) (K.written sink.new)) }
     ensures account { OnOk result (ledger.new.account ≡ record ledger.old.account { views = ledger.new.account.views }) }
     ensures heard { OnOk result (HearsOn ledger.old.committed.machine ledger.new.committed.machine ledger.old.account.views ledger.new.account.views) }
-    ensures err { OnErr result ((printed : List ℤ) × MayPrint ledger.old.committed printed × WritesFront (prints_bytes (ledger.old.waiting ++ printed)) (K.written sink.old) (K.written sink.new)) }
+    ensures err { OnErr result ((printed : List ℤ) × MayPrint ledger.old.committed printed × WritesFront (prints_bytes (ledger.old.waiting ++ printed))
+        (K.written sink.old) (K.written sink.new)) }
 {
     'calls: loop {
         match go_on(alloc, ledger, sink)? {
@@ -51,10 +53,12 @@ fn go_on<K: Sink>(
     requires sink { K.faults sink.old < 2 ^ 64 - 1 }
     requires next { next_part ledger.old.committed.machine ≡ Region ledger.old.committed.region }
     ensures faults { FaultsAfter result (K.faults sink.old) (K.faults sink.new) }
-    ensures ok { IfOk result (λ end. (printed : List ℤ) × Remade ledger.old.committed ledger.new.committed printed end × Emits (ledger.old.waiting ++ printed) ledger.new.waiting (K.written sink.old) (K.written sink.new)) }
+    ensures ok { IfOk result (λ end. (printed : List ℤ) × Remade ledger.old.committed ledger.new.committed printed end
+        × Emits (ledger.old.waiting ++ printed) ledger.new.waiting (K.written sink.old) (K.written sink.new)) }
     ensures account { OnOk result (ledger.new.account ≡ record ledger.old.account { views = ledger.new.account.views }) }
     ensures heard { OnOk result (HearsOn ledger.old.committed.machine ledger.new.committed.machine ledger.old.account.views ledger.new.account.views) }
-    ensures err { OnErr result ((printed : List ℤ) × MayPrint ledger.old.committed printed × WritesFront (prints_bytes (ledger.old.waiting ++ printed)) (K.written sink.old) (K.written sink.new)) }
+    ensures err { OnErr result ((printed : List ℤ) × MayPrint ledger.old.committed printed × WritesFront (prints_bytes (ledger.old.waiting ++ printed))
+        (K.written sink.old) (K.written sink.new)) }
     ensures few { OnOk result (length ledger.new.waiting < 4096) }
 {
     let end = ledger.recover(alloc, TURNS)?;

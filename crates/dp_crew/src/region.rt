@@ -45,8 +45,10 @@ pub fn run_region<'p, R: Threads + Wait + Clock + Sync, K: Sink, G: Gate, W: Wat
     ensures faults { FaultsAfter result (K.faults sink.old) (K.faults sink.new) }
     ensures ran { IfOk result (λ ran. RegionRan region.now.program region.now.plan machine.entry ran.0 ran.1) }
     ensures report { OnOk result (report.new ≡ told_when why (region_report region.now.program region.now.plan (region_run machine.entry))) }
-    ensures written { OnOk result (K.written sink.new ≡ appended (prints_bytes (region_prints (region_run machine.entry) region.now.plan.region)) (K.written sink.old)) }
-    ensures front { OnErr result (WritesFront (prints_bytes (region_prints (region_run machine.entry) region.now.plan.region)) (K.written sink.old) (K.written sink.new)) }
+    ensures written { OnOk result (K.written sink.new ≡ appended (prints_bytes (region_prints (region_run machine.entry) region.now.plan.region))
+        (K.written sink.old)) }
+    ensures front { OnErr result (WritesFront (prints_bytes (region_prints (region_run machine.entry) region.now.plan.region)) (K.written sink.old)
+        (K.written sink.new)) }
     ensures tally { OnOk result (tally.new + report.new.recovered_count ≡ tally.old + report.new.iterations) }
 {
     let plan = region.plan();

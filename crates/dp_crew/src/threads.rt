@@ -8,26 +8,8 @@ use std::sync::Wait;
 use std::thread::Scope;
 use std::time::Clock;
 
-/// Starts a thread for each tray, from the last one on, which waits by the bell at its place. Answers how many of the first
-/// trays have none: where a thread can't be started, no further one is.
+/// Starts the thread of the tray at this place, which waits by the bell there, and says whether it could be started.
 pub(crate) fn start<'s, 'u, E, R: Wait + Clock + Sync, G: Gate>(
-    scope: &Scope<'s, E>,
-    rt: &'s R,
-    trays: &'s [Tray<'u>],
-    bells: &'s [Bell],
-    gate: &'s G,
-) -> usize {
-    for turn in 0..trays.len() {
-        let left = trays.len() - turn;
-        if !start_one(scope, rt, trays, bells, left - 1, gate) {
-            return left;
-        }
-    }
-    0
-}
-
-/// Starts the thread of the tray at this place, if one can be started.
-fn start_one<'s, 'u, E, R: Wait + Clock + Sync, G: Gate>(
     scope: &Scope<'s, E>,
     rt: &'s R,
     trays: &'s [Tray<'u>],

@@ -2,9 +2,9 @@
 ghost use Rattle.std.specs.Prelude.{◌≡◌, ◌<◌, ◌≤◌, ◌+◌, ◌-◌, ◌^◌, IfOk};
 ghost use Rattle.dp_meaning.specs.MachineState.{MachineState};
 ghost use Rattle.dp_edge.specs.Writing.{FaultsAfter};
-ghost use Rattle.dp_epoch.specs.Applied.{HasRoom};
+ghost use Rattle.dp_epoch.specs.Applied.{HasRoomForVerdicts};
 ghost use Rattle.dp_epoch.specs.InEpoch.{ToBegin};
-ghost use Rattle.dp_epoch.specs.Prints.{to_come};
+ghost use Rattle.dp_epoch.specs.Prints.{prints_to_come};
 ghost use Rattle.dp_epoch.specs.Progress.{RegionDone};
 ghost use Rattle.dp_crew.specs.Output.{Streams};
 
@@ -32,13 +32,17 @@ pub(crate) fn run_together<'p, 'v, R: Threads + Wait + Clock + Sync, K: Sink, G:
     requires fuel { ledger.committed.machine.fuel ≤ 1000000000 }
     requires sink { K.faults sink.old < 2 ^ 64 - 1 }
     requires start { (first : MachineState) × ToBegin work.region.now.program work.region.now.plan work.input.now first ledger.committed ledger.account }
-    requires room { HasRoom tally.old ledger.committed }
+    requires room { HasRoomForVerdicts tally.old ledger.committed }
     ensures faults { FaultsAfter result (K.faults sink.old) (K.faults sink.new) }
-    ensures ok { IfOk result (λ r. (first : MachineState) → ToBegin work.entry.region.now.program work.entry.region.now.plan work.entry.input.now first ledger.entry.committed ledger.entry.account → RegionDone work.entry.region.now.plan first r.0.committed r.0.account r.1) }
+    ensures ok { IfOk result (λ r. (first : MachineState) → ToBegin work.entry.region.now.program work.entry.region.now.plan work.entry.input.now first
+        ledger.entry.committed ledger.entry.account → RegionDone work.entry.region.now.plan first r.0.committed r.0.account r.1) }
     ensures why { IfOk result (λ r. r.0.account.why ≡ ledger.entry.account.why) }
-    ensures streams { (first : MachineState) → ToBegin work.entry.region.now.program work.entry.region.now.plan work.entry.input.now first ledger.entry.committed ledger.entry.account →
-        Streams result (to_come work.entry.region.now.plan first ledger.entry.waiting ledger.entry.committed.count) (λ r. r.0.waiting) (K.written sink.old) (K.written sink.new) }
-    ensures tally { IfOk result (λ r. tally.new + r.0.account.report.recovered_count + ledger.entry.account.report.iterations ≡ tally.old + r.0.account.report.iterations + ledger.entry.account.report.recovered_count) }
+    ensures streams { (first : MachineState) → ToBegin work.entry.region.now.program work.entry.region.now.plan work.entry.input.now first
+        ledger.entry.committed ledger.entry.account →
+        Streams result (prints_to_come work.entry.region.now.plan first ledger.entry.waiting ledger.entry.committed.count) (λ r. r.0.waiting)
+        (K.written sink.old) (K.written sink.new) }
+    ensures tally { IfOk result (λ r. tally.new + r.0.account.report.recovered_count + ledger.entry.account.report.iterations ≡ tally.old
+        + r.0.account.report.iterations + ledger.entry.account.report.recovered_count) }
 {
     let made = trays_for(work.alloc, work.bells.len().saturating_sub(1))?;
     let trays = made.as_slice();
@@ -53,20 +57,26 @@ pub(crate) fn run_together<'p, 'v, R: Threads + Wait + Clock + Sync, K: Sink, G:
         )
             requires fuel { ledger.committed.machine.fuel ≤ 1000000000 }
             requires sink { K.faults lent_sink.now < 2 ^ 64 - 1 }
-            requires start { (first : MachineState) × ToBegin work.region.now.program work.region.now.plan work.input.now first ledger.committed ledger.account }
-            requires room { HasRoom lent_tally.now ledger.committed }
+            requires start { (first : MachineState) × ToBegin work.region.now.program work.region.now.plan work.input.now first
+                ledger.committed ledger.account }
+            requires room { HasRoomForVerdicts lent_tally.now ledger.committed }
             ensures sink { result.0.ghost_name ≡ lent_sink.entry.ghost_name }
             ensures tallies { result.1.ghost_name ≡ lent_tally.entry.ghost_name }
             ensures faults { FaultsAfter result.2 (K.faults lent_sink.entry.now) (K.faults result.0.now) }
-            ensures ok { IfOk result.2 (λ r. (first : MachineState) → ToBegin work.entry.region.now.program work.entry.region.now.plan work.entry.input.now first ledger.entry.committed ledger.entry.account → RegionDone work.entry.region.now.plan first r.0.committed r.0.account r.1) }
+            ensures ok { IfOk result.2 (λ r. (first : MachineState) → ToBegin work.entry.region.now.program work.entry.region.now.plan work.entry.input.now
+                first ledger.entry.committed ledger.entry.account → RegionDone work.entry.region.now.plan first r.0.committed r.0.account r.1) }
             ensures why { IfOk result.2 (λ r. r.0.account.why ≡ ledger.entry.account.why) }
-            ensures streams { (first : MachineState) → ToBegin work.entry.region.now.program work.entry.region.now.plan work.entry.input.now first ledger.entry.committed ledger.entry.account →
-                Streams result.2 (to_come work.entry.region.now.plan first ledger.entry.waiting ledger.entry.committed.count) (λ r. r.0.waiting) (K.written lent_sink.entry.now) (K.written result.0.now) }
-            ensures tally { IfOk result.2 (λ r. result.1.now + r.0.account.report.recovered_count + ledger.entry.account.report.iterations ≡ lent_tally.entry.now + r.0.account.report.iterations + ledger.entry.account.report.recovered_count) }
+            ensures streams { (first : MachineState) → ToBegin work.entry.region.now.program work.entry.region.now.plan work.entry.input.now first
+                ledger.entry.committed ledger.entry.account →
+                Streams result.2 (prints_to_come work.entry.region.now.plan first ledger.entry.waiting ledger.entry.committed.count) (λ r. r.0.waiting)
+                (K.written lent_sink.entry.now) (K.written result.0.now) }
+            ensures tally { IfOk result.2 (λ r. result.1.now + r.0.account.report.recovered_count + ledger.entry.account.report.iterations
+                ≡ lent_tally.entry.now + r.0.account.report.iterations + ledger.entry.account.report.recovered_count) }
         {
-            let mut crew = Crew::new(scope, rt, gate, trays, work.bells);
+            let mut crew = Crew::new(work, scope, rt, gate, trays, lent_tally);
             let end = run_epochs(work, &mut crew, ledger, lent_sink, lent_tally);
             crew.dismiss();
+            crew.tell(work.region.number(), lent_tally);
             (lent_sink, lent_tally, end)
         },
     );

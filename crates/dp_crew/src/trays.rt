@@ -1,9 +1,14 @@
 //! Where units lie until their threads take them.
+ghost use Rattle.std.specs.Prelude.{◌≡◌};
+
 use dp_base::NoMemory;
-use dp_pipeline::Unit;
+use dp_pipeline::{LaneVerdicts, Unit};
 use std::alloc::Global;
 use std::mem;
 use std::sync::{Mutex, Wait};
+
+/// An epoch of one stage has two units: the stage's, and the one that judges.
+const ONE_STAGE: usize = 2;
 
 /// A unit lies here until its thread takes it out.
 pub(crate) type Tray<'u> = Mutex<Option<Unit<'u>>>;
@@ -25,4 +30,17 @@ pub(crate) fn lay<'u, R: Wait>(
 ) -> Option<Unit<'u>> {
     let mut lies = tray.lock(rt);
     mem::replace(&mut *lies, unit)
+}
+
+/// How many of the last units that the verdicts poll are to be handed over. Of a single stage's that is the stage's, which comes
+/// last then.
+pub(crate) fn to_hand(verdicts: &mut LaneVerdicts<'_>) -> usize
+    ensures { verdicts.new ≡ verdicts.old }
+{
+    let units = verdicts.units();
+    if units == ONE_STAGE {
+        verdicts.turn_units();
+        return 1;
+    }
+    units
 }

@@ -1,5 +1,6 @@
 -- A least plan is a valid one.
-use Rattle.std.proofs.Common.{◌≡◌, refl, sym, ap, subst, ◌∙◌, ℕ, zero, suc, ◌+◌, ◌-◌, ◌<◌, ◌≤◌, ◌==◌, not, if◌then◌else◌, Bool, true, false, is_none, List, [], ◌∷◌, map, length, slice_index, Option, Contains, inl, inr, arith, eq-eqb, le-leb}
+use Rattle.std.proofs.Common.{◌≡◌, refl, sym, ap, subst, ◌∙◌, ℕ, zero, suc, ◌+◌, ◌-◌, ◌<◌, ◌≤◌, ◌==◌, not, if◌then◌else◌, Bool, true, false, is_none, List, []}
+use Rattle.std.proofs.Common.{◌∷◌, map, length, slice_index, Option, Contains, inl, inr, arith, eq-eqb, le-leb}
 use Rattle.std.proofs.lemmas.Bool.{or_from, or_right}
 use Rattle.std.proofs.lemmas.List.{length-map}
 use Rattle.dp_tree.specs.declared.Program.{Program}
@@ -20,7 +21,7 @@ use Rattle.dp_plan.proofs.RulesMet.{Meets, unbroken}
 use Rattle.dp_plan.proofs.SameNumbers.{ascending_once}
 use Rattle.dp_profile.specs.declared.Profile.{Profile}
 use Rattle.dp_depend.specs.declared.nodes.Node.{Node}
-use Rattle.dp_depend.specs.Edges.{chosen_of, edges_of, first_of, site_of}
+use Rattle.dp_depend.specs.Edges.{chosen_of, edges_of, first_in_region, node_site}
 use Rattle.dp_depend.specs.Node.{region_nodes}
 use Rattle.dp_depend.specs.Shown.{region_profile}
 use Rattle.dp_depend.proofs.NodeSites.{node_sites}
@@ -29,7 +30,7 @@ use Rattle.dp_units.proofs.PlaceLaws.{first_of_all, place_of_leader}
 use Rattle.dp_least_cut.specs.declared.Stretch.{Stretch}
 use Rattle.dp_least_cut.specs.Allowed.{AreStages}
 use Rattle.dp_cut.specs.Automatic.{IsAutomatic, node_pairs, weights_of}
-use Rattle.dp_cut.specs.LeastPlan.{at_site, carried_pairs, is_needed, kind_of, plan_of_cut, stage_at, stages_of, unit_weights}
+use Rattle.dp_cut.specs.LeastPlan.{at_site, carried_pairs, must_assume, stretch_kind, plan_of_cut, stage_of_unit, stages_of, unit_weights}
 use Rattle.dp_cut.proofs.ChosenIfs.{chosen_each, chosen_up, kept_each, kept_left, kept_up}
 use Rattle.dp_cut.proofs.NodeElements.{each_contains, each_from, node_has, nodes_many}
 use Rattle.dp_cut.proofs.LeastStages.{ascends_has, in_time, number, stage_of_node}
@@ -56,7 +57,9 @@ first_is : (k : ℕ) (ns : List ℕ) → Ascends k ns → 0 < length ns → firs
 first_is k [] up lt = absurd (omega (arith, lt))
 first_is k (n ∷ ns) up lt = up.0
 
-module _ (p : Program) (r : ℕ) (profile : Option Profile) (rate : ℕ) (ready : IsReady p r profile rate) (order places : List ℕ) (ordered : IsOrder (length (region_nodes p r)) (node_pairs p r profile rate) order) (placed : ArePlaces (length (region_nodes p r)) (node_pairs p r profile rate) order places)
+module _ (p : Program) (r : ℕ) (profile : Option Profile) (rate : ℕ) (ready : IsReady p r profile rate) (order places : List ℕ)
+    (ordered : IsOrder (length (region_nodes p r)) (node_pairs p r profile rate) order)
+    (placed : ArePlaces (length (region_nodes p r)) (node_pairs p r profile rate) order places)
     (carried : List (ℕ × ℕ)) (cut : List Stretch) (stages : AreStages carried (length order) true 0 cut) where
   abbrev made : Plan
   made = plan_of_cut p r places (chosen_of p r profile rate) cut
@@ -68,49 +71,56 @@ module _ (p : Program) (r : ℕ) (profile : Option Profile) (rate : ℕ) (ready 
   some_unit = omega (arith, placed.within 0 ready.some)
 
   -- the stage of a site, by the place of its unit
-  site_stage : (x : ℕ) → has x (region_sites p r) ≡ true → stage_of p made x ≡ at_site (stages_of cut places) (first_of p r) x
+  site_stage : (x : ℕ) → has x (region_sites p r) ≡ true → stage_of p made x ≡ at_site (stages_of cut places) (first_in_region p r) x
   site_stage x e =
-      ap (λ (b : Bool). if b then at_site (stages_of cut places) (first_of p r) x else 0) (le-leb (first_of p r) x (number p r profile rate order places ordered placed ready.ascends cut x e).0)
+      ap (λ (b : Bool). if b then at_site (stages_of cut places) (first_in_region p r) x else 0)
+      (le-leb (first_in_region p r) x (number p r profile rate order places ordered placed ready.ascends cut x e).0)
 
-  unit_stage : (x : ℕ) → has x (region_sites p r) ≡ true → stage_of p made x ≡ stage_at 1 cut (slice_index places (x - first_of p r))
-  unit_stage x e = site_stage x e ∙ stage_of_node p r profile rate order places ordered placed ready.ascends cut (x - first_of p r) (number p r profile rate order places ordered placed ready.ascends cut x e).1
+  unit_stage : (x : ℕ) → has x (region_sites p r) ≡ true → stage_of p made x ≡ stage_of_unit 1 cut (slice_index places (x - first_in_region p r))
+  unit_stage x e = site_stage x e ∙ stage_of_node p r profile rate order places ordered placed ready.ascends cut (x - first_in_region p r)
+      (number p r profile rate order places ordered placed ready.ascends cut x e).1
 
-  kinds_many : length (map kind_of cut) ≡ length cut
-  kinds_many = length-map cut kind_of
+  kinds_many : length (map stretch_kind cut) ≡ length cut
+  kinds_many = length-map cut stretch_kind
 
-  within : (x : ℕ) → has x (region_sites p r) ≡ true → (1 ≤ stage_of p made x) × (stage_of p made x < 1 + length (map kind_of cut))
+  within : (x : ℕ) → has x (region_sites p r) ≡ true → (1 ≤ stage_of p made x) × (stage_of p made x < 1 + length (map stretch_kind cut))
   within x e =
-      let i : ℕ = slice_index places (x - first_of p r) in
-      let lt = placed.within (x - first_of p r) (number p r profile rate order places ordered placed ready.ascends cut x e).1 in
+      let i : ℕ = slice_index places (x - first_in_region p r) in
+      let lt = placed.within (x - first_in_region p r) (number p r profile rate order places ordered placed ready.ascends cut x e).1 in
       let is = unit_stage x e in
       let most = stage_most carried (length order) 1 true 0 cut i stages (omega (arith, lt)) in
       (omega (arith, is, stage_least 1 cut i), omega (arith, is, most, kinds_many))
 
   condition_first : written_stage (written_of p made) (condition p (written_of p made)) ≡ 1
   condition_first =
-      let is : first_in (region_sites p r) ≡ first_of p r = first_is (first_of p r) (region_sites p r) ready.ascends (omega (arith, ready.some, nodes_many p r)) in
-      let plus : first_of p r + 0 ≡ first_of p r = omega arith in
-      let there : has (first_of p r) (region_sites p r) ≡ true = subst (λ (n : ℕ). has n (region_sites p r) ≡ true) plus (ascends_has (first_of p r) 0 (region_sites p r) ready.ascends (omega (arith, ready.some, nodes_many p r))) in
-      let none : first_of p r - first_of p r ≡ 0 = omega arith in
-      let place : slice_index places 0 ≡ 0 = first_of_all (length (region_nodes p r)) (node_pairs p r profile rate) order places ordered placed ready.some ready.leads in
+      let is : first_in (region_sites p r) ≡ first_in_region p r = first_is (first_in_region p r) (region_sites p r) ready.ascends
+      (omega (arith, ready.some, nodes_many p r)) in
+      let plus : first_in_region p r + 0 ≡ first_in_region p r = omega arith in
+      let there : has (first_in_region p r) (region_sites p r) ≡ true = subst (λ (n : ℕ). has n (region_sites p r) ≡ true) plus
+      (ascends_has (first_in_region p r) 0 (region_sites p r) ready.ascends (omega (arith, ready.some, nodes_many p r))) in
+      let none : first_in_region p r - first_in_region p r ≡ 0 = omega arith in
+      let place : slice_index places 0 ≡ 0 = first_of_all (length (region_nodes p r)) (node_pairs p r profile rate) order places ordered placed
+      ready.some ready.leads in
       ap (written_stage (written_of p made)) is
-      ∙ stage_written p made up within (first_of p r) there
-      ∙ unit_stage (first_of p r) there
-      ∙ ap (λ (n : ℕ). stage_at 1 cut (slice_index places n)) none
-      ∙ ap (stage_at 1 cut) place
+      ∙ stage_written p made up within (first_in_region p r) there
+      ∙ unit_stage (first_in_region p r) there
+      ∙ ap (λ (n : ℕ). stage_of_unit 1 cut (slice_index places n)) none
+      ∙ ap (stage_of_unit 1 cut) place
       ∙ first_stage carried (length order) 1 true 0 cut stages some_unit
 
   -- each site and the conditions around it
   outside : (u : Node) → Contains (region_nodes p r) u → Outside (InTime p made up within) (Unassumed p made up within) u
   outside u c = (
-    λ off. kept_left (is_needed (stages_of cut places) (first_of p r) (region_nodes p r)) u.site.0 (chosen_of p r profile rate) (ready.plain u c off),
+    λ off. kept_left (must_assume (stages_of cut places) (first_in_region p r) (region_nodes p r)) u.site.0 (chosen_of p r profile rate) (ready.plain u c off),
     each_map (λ x. has x u.around ≡ true) (λ x. InTime p made up within x u.site.0) by u.around (each_has u.around),
   )
     where
       by : (x : ℕ) → has x u.around ≡ true → InTime p made up within x u.site.0
       by x around =
-          let known : has x (map site_of (region_nodes p r)) ≡ true =
-          has_each (λ n. has n (map site_of (region_nodes p r)) ≡ true) u.around x (each_contains (λ (v : Node). Each (λ n. has n (map site_of (region_nodes p r)) ≡ true) v.around) (region_nodes p r) u (conditions_are_sites p r) c) around in
+          let known : has x (map node_site (region_nodes p r)) ≡ true =
+          has_each (λ n. has n (map node_site (region_nodes p r)) ≡ true) u.around x
+          (each_contains (λ (v : Node). Each (λ n. has n (map node_site (region_nodes p r)) ≡ true) v.around) (region_nodes p r) u
+          (conditions_are_sites p r) c) around in
           let there : has x (region_sites p r) ≡ true = subst (λ (l : List ℕ). has x l ≡ true) (node_sites p r) known in
           let own = node_has p r u c in (
             there,
@@ -125,14 +135,18 @@ module _ (p : Program) (r : ℕ) (profile : Option Profile) (rate : ℕ) (ready 
   each_outside = each_from (Outside (InTime p made up within) (Unassumed p made up within)) (region_nodes p r) outside
 
   assumed_up : AscendAbove 0 (map assumed_site made.assume)
-  assumed_up = kept_up (is_needed (stages_of cut places) (first_of p r) (region_nodes p r)) 0 (chosen_of p r profile rate) (chosen_up (region_profile profile r).sites (first_of p r) rate 0 (region_nodes p r) ready.up)
+  assumed_up = kept_up (must_assume (stages_of cut places) (first_in_region p r) (region_nodes p r)) 0 (chosen_of p r profile rate)
+      (chosen_up (region_profile profile r).sites (first_in_region p r) rate 0 (region_nodes p r) ready.up)
 
   assumed_ifs : Each (λ x. has x (map site_of_condition (region_ifs p r)) ≡ true) (map assumed_site made.assume)
-  assumed_ifs = kept_each (λ x. has x (map site_of_condition (region_ifs p r)) ≡ true) (is_needed (stages_of cut places) (first_of p r) (region_nodes p r)) (chosen_of p r profile rate)
-      (chosen_each (region_profile profile r).sites (first_of p r) rate (λ x. has x (map site_of_condition (region_ifs p r)) ≡ true) (region_nodes p r) (if_nodes p r))
+  assumed_ifs = kept_each (λ x. has x (map site_of_condition (region_ifs p r)) ≡ true) (must_assume (stages_of cut places) (first_in_region p r)
+      (region_nodes p r)) (chosen_of p r profile rate)
+      (chosen_each (region_profile profile r).sites (first_in_region p r) rate (λ x. has x (map site_of_condition (region_ifs p r)) ≡ true)
+      (region_nodes p r) (if_nodes p r))
 
   rightly : (x : ℕ) → has x (map site_of_condition (region_ifs p r)) ≡ true → is_no_if_or_again p (written_of p made) x ≡ false
-  rightly x e = or_from (not (has x (map site_of_condition (region_ifs p r)))) (occurs_again (map assumed_site made.assume) x) (ap not e) (not_again x (map assumed_site made.assume) (ascending_once 0 x (map assumed_site made.assume) assumed_up))
+  rightly x e = or_from (not (has x (map site_of_condition (region_ifs p r)))) (occurs_again (map assumed_site made.assume) x) (ap not e)
+      (not_again x (map assumed_site made.assume) (ascending_once 0 x (map assumed_site made.assume) assumed_up))
 
   met : Meets p (written_of p made)
   met = record {
@@ -142,21 +156,25 @@ module _ (p : Program) (r : ℕ) (profile : Option Profile) (rate : ℕ) (ready 
     first = eq-eqb _ 1 condition_first;
     sequential = sequential_first p made carried (length order) cut stages;
     apart = no_neighbours p made carried (length order) 1 true 0 cut stages;
-    whiles = whiles_in_time p made up within (region_inner_whiles p r) (all_whiles (InTime p made up within) (Unassumed p made up within) (region_in p r) each_outside);
+    whiles = whiles_in_time p made up within (region_inner_whiles p r) (all_whiles (InTime p made up within) (Unassumed p made up within)
+        (region_in p r) each_outside);
     ifs = ifs_in_time p made up within (region_ifs p r) (all_ifs (InTime p made up within) (Unassumed p made up within) (region_in p r) each_outside);
-    assumed = each_map (λ x. has x (map site_of_condition (region_ifs p r)) ≡ true) (λ x. is_no_if_or_again p (written_of p made) x ≡ false) rightly (map assumed_site made.assume) assumed_ifs;
+    assumed = each_map (λ x. has x (map site_of_condition (region_ifs p r)) ≡ true) (λ x. is_no_if_or_again p (written_of p made) x ≡ false) rightly
+        (map assumed_site made.assume) assumed_ifs;
   }
 
   -- each stage has a site: the node of a unit of it
-  filled_at : (j : ℕ) → 1 ≤ j → j < 1 + length (map kind_of cut) → has j (stages_of cut places) ≡ true
+  filled_at : (j : ℕ) → 1 ≤ j → j < 1 + length (map stretch_kind cut) → has j (stages_of cut places) ≡ true
   filled_at j least most =
       let unit = stage_reached carried (length order) 1 true 0 cut stages j least (omega (arith, most, kinds_many)) in
       let lt : unit.0 < length order = (let e = unit.1 in omega (arith, e)) in
       let node : ℕ = slice_index order unit.0 in
       let there : node < length (region_nodes p r) = (ordered.next unit.0 lt).free.within in
-      let place : slice_index places node ≡ unit.0 = place_of_leader (length (region_nodes p r)) (node_pairs p r profile rate) order places ordered placed unit.0 lt in
-      let is : slice_index (stages_of cut places) node ≡ j = stage_of_node p r profile rate order places ordered placed ready.ascends cut node there ∙ ap (stage_at 1 cut) place ∙ unit.2 in
-      let long : length (stages_of cut places) ≡ length places = length-map places (stage_at 1 cut) in
+      let place : slice_index places node ≡ unit.0 = place_of_leader (length (region_nodes p r)) (node_pairs p r profile rate) order places
+      ordered placed unit.0 lt in
+      let is : slice_index (stages_of cut places) node ≡ j = stage_of_node p r profile rate order places ordered placed ready.ascends cut node there
+      ∙ ap (stage_of_unit 1 cut) place ∙ unit.2 in
+      let long : length (stages_of cut places) ≡ length places = length-map places (stage_of_unit 1 cut) in
       subst (λ (n : ℕ). has n (stages_of cut places) ≡ true) is (has_index node (stages_of cut places) (omega (arith, there, long, placed.each)))
 
   some_stage : (cut : List Stretch) → AreStages carried (length order) true 0 cut → 1 ≤ length cut
@@ -169,19 +187,21 @@ module _ (p : Program) (r : ℕ) (profile : Option Profile) (rate : ℕ) (ready 
     most_words = omega arith;
     some_stage = omega (arith, kinds_many, some_stage cut stages);
     few_stages = omega (arith, kinds_many, few);
-    filled = each_number (λ j. has j (stages_of cut places) ≡ true) 1 (length (map kind_of cut)) filled_at;
-    staged = length-map places (stage_at 1 cut) ∙ placed.each ∙ sym (nodes_many p r);
+    filled = each_number (λ j. has j (stages_of cut places) ≡ true) 1 (length (map stretch_kind cut)) filled_at;
+    staged = length-map places (stage_of_unit 1 cut) ∙ placed.each ∙ sym (nodes_many p r);
     valid = ap is_none (unbroken p (written_of p made) met);
     assume = assumed_up;
     table = refl;
   }
 
-pub least_valid : (p : Program) → IsInlined p → (r : ℕ) → 1 ≤ r → r < 1 + length p.regions → (profile : Option Profile) (rate most workers : ℕ) → most < 9 → (plan : Plan) → IsAutomatic p r profile rate most workers plan → IsPlan p plan
+pub least_valid : (p : Program) → IsInlined p → (r : ℕ) → 1 ≤ r → r < 1 + length p.regions → (profile : Option Profile) (rate most workers : ℕ) → most < 9 →
+    (plan : Plan) → IsAutomatic p r profile rate most workers plan → IsPlan p plan
 least_valid p inlined r low high profile rate most workers few plan is =
     let weights = weights_of p r profile in
-    let carried = carried_pairs is.places (first_of p r) (edges_of p r profile rate) in
+    let carried = carried_pairs is.places (first_in_region p r) (edges_of p r profile rate) in
     let cut = is.least.cut in
     let allowed = is.least.least.allowed in
     let count : length (unit_weights (length is.order) is.places weights) ≡ length is.order = length-map _ _ ∙ length-numbers_from 0 (length is.order) in
     let stages : AreStages carried (length is.order) true 0 cut = subst (λ (n : ℕ). AreStages carried n true 0 cut) count allowed.0 in
-    subst (IsPlan p) (sym is.least.is) (cut_valid p r profile rate (region_ready p inlined r low high profile rate) is.order is.places is.ordered is.placed carried cut stages (omega (arith, allowed.1, few)))
+    subst (IsPlan p) (sym is.least.is) (cut_valid p r profile rate (region_ready p inlined r low high profile rate) is.order is.places is.ordered is.placed
+    carried cut stages (omega (arith, allowed.1, few)))

@@ -1,5 +1,6 @@
 -- Elements of lists, and the sites of a region's nodes.
-use Rattle.std.proofs.Common.{◌≡◌, refl, sym, ap, subst, ◌∙◌, ℕ, zero, suc, ◌==◌, Bool, true, List, [], ◌∷◌, map, length, Contains, inl, inr, arith, eq-eqb, eqb-true}
+use Rattle.std.proofs.Common.{◌≡◌, refl, sym, ap, subst, ◌∙◌, ℕ, zero, suc, ◌==◌, Bool, true, List, [], ◌∷◌, map, length, Contains, inl, inr, arith, eq-eqb}
+use Rattle.std.proofs.Common.{eqb-true}
 use Rattle.std.specs.List.{flat_map, list_any}
 use Rattle.std.proofs.lemmas.Bool.{cases_Bool, or_left, or_right}
 use Rattle.std.proofs.lemmas.List.{length-map}
@@ -9,7 +10,7 @@ use Rattle.dp_plan.specs.Each.{Each}
 use Rattle.dp_plan.specs.Written.{has, region_sites}
 use Rattle.dp_plan.proofs.Found.{past_other}
 use Rattle.dp_depend.specs.declared.nodes.Node.{Node}
-use Rattle.dp_depend.specs.Edges.{site_of}
+use Rattle.dp_depend.specs.Edges.{node_site}
 use Rattle.dp_depend.specs.Node.{region_nodes}
 use Rattle.dp_depend.proofs.NodeSites.{node_sites}
 
@@ -40,22 +41,22 @@ each_from P (x ∷ xs) f = (f x (zero, omega arith, refl), each_from P xs (λ y 
 -- ---- nodes
 
 -- the node of a site
-pub node_at : (all : List Node) (x : ℕ) → has x (map site_of all) ≡ true → (d : Node) × Contains all d × (d.site.0 ≡ x)
+pub node_at : (all : List Node) (x : ℕ) → has x (map node_site all) ≡ true → (d : Node) × Contains all d × (d.site.0 ≡ x)
 node_at [] x e = absurd (cc e)
 node_at (u ∷ rest) x e = elim (cases_Bool (u.site.0 == x)) [
   | inl same ↦ (u, (zero, omega arith, refl), eqb-true u.site.0 x same)
   | inr other ↦
-      let later = node_at rest x (past_other u.site.0 x (map site_of rest) other e) in
+      let later = node_at rest x (past_other u.site.0 x (map node_site rest) other e) in
       (later.0, (suc later.1.0, omega (arith, later.1.1), later.1.2), later.2)
 ]
 
-contains_has : (all : List Node) (u : Node) → Contains all u → has u.site.0 (map site_of all) ≡ true
+contains_has : (all : List Node) (u : Node) → Contains all u → has u.site.0 (map node_site all) ≡ true
 contains_has [] u c = absurd (omega (arith, c.1))
-contains_has (v ∷ rest) u (zero, lt, is) = rw (eq-eqb v.site.0 u.site.0 (ap site_of is)) refl
-contains_has (v ∷ rest) u (suc i, lt, is) = or_right (v.site.0 == u.site.0) (has u.site.0 (map site_of rest)) (contains_has rest u (i, omega (arith, lt), is))
+contains_has (v ∷ rest) u (zero, lt, is) = rw (eq-eqb v.site.0 u.site.0 (ap node_site is)) refl
+contains_has (v ∷ rest) u (suc i, lt, is) = or_right (v.site.0 == u.site.0) (has u.site.0 (map node_site rest)) (contains_has rest u (i, omega (arith, lt), is))
 
 pub nodes_many : (p : Program) (r : ℕ) → length (region_sites p r) ≡ length (region_nodes p r)
-nodes_many p r = sym (ap length (node_sites p r)) ∙ length-map (region_nodes p r) site_of
+nodes_many p r = sym (ap length (node_sites p r)) ∙ length-map (region_nodes p r) node_site
 
 -- a node's site is one of the region
 pub node_has : (p : Program) (r : ℕ) (u : Node) → Contains (region_nodes p r) u → has u.site.0 (region_sites p r) ≡ true

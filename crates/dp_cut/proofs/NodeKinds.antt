@@ -13,7 +13,7 @@ use Rattle.dp_plan.specs.Written.{has}
 use Rattle.dp_plan.proofs.Found.{each_has}
 use Rattle.dp_plan.proofs.EachLemmas.{each-lists, each_split}
 use Rattle.dp_depend.specs.declared.nodes.Node.{Node}
-use Rattle.dp_depend.specs.Edges.{site_of}
+use Rattle.dp_depend.specs.Edges.{node_site}
 use Rattle.dp_depend.specs.Node.{loop_of, nodes, nodes_in, region_nodes}
 
 -- what is so of each image is so of each element by its image
@@ -43,12 +43,17 @@ module _ (Is : ℕ → Type 0) where
     conditions around loop (tree.If' site cond _ a _ b) h is =
         let inner = around ++ site.0 ∷ [] in
         let more = one_more around site.0 h is.0 in
-        let both = each_split At (nodes_in inner loop a) (nodes_in inner loop b) is.1 in
-        (h, each-lists Conditions (nodes_in inner loop a) (nodes_in inner loop b) (conditions_in inner loop a more both.0) (conditions_in inner loop b more both.1))
-    conditions around loop (tree.While' site cond _ a) h is = (h, conditions_in (around ++ site.0 ∷ []) (Some (loop_of loop site.0)) a (one_more around site.0 h is.0) is.1)
+        let both = each_split At (nodes_in inner loop a) (nodes_in inner loop b) is.1 in (
+          h,
+          each-lists Conditions (nodes_in inner loop a) (nodes_in inner loop b) (conditions_in inner loop a more both.0) (conditions_in inner
+              loop b more both.1),
+        )
+    conditions around loop (tree.While' site cond _ a) h is =
+        (h, conditions_in (around ++ site.0 ∷ []) (Some (loop_of loop site.0)) a (one_more around site.0 h is.0) is.1)
     conditions around loop (tree.Region' r site cond _ a) h is = (h, conditions_in (around ++ site.0 ∷ []) loop a (one_more around site.0 h is.0) is.1)
 
-    conditions_in : {n : _} (around : List ℕ) (loop : Option ℕ) (row : Row_of-Stmt n) → Each Is around → Each At (nodes_in around loop row) → Each Conditions (nodes_in around loop row)
+    conditions_in : {n : _} (around : List ℕ) (loop : Option ℕ) (row : Row_of-Stmt n) → Each Is around → Each At (nodes_in around loop row) →
+        Each Conditions (nodes_in around loop row)
     conditions_in around loop end_of-Stmt h is = tt
     conditions_in around loop (more_of-Stmt s rest) h is =
         let both = each_split At (nodes around loop s) (nodes_in around loop rest) is in
@@ -61,10 +66,11 @@ module _ (Is : ℕ → Type 0) where
       each-lists Conditions (nodes [] None s) (flat_map (nodes [] None) rest) (conditions [] None s tt both.0) (conditions_all rest both.1)
 
 -- each condition around a site of region r is a site of it
-pub conditions_are_sites : (p : Program) (r : ℕ) → Each (λ (u : Node). Each (λ x. has x (map site_of (region_nodes p r)) ≡ true) u.around) (region_nodes p r)
+pub conditions_are_sites : (p : Program) (r : ℕ) → Each (λ (u : Node). Each (λ x. has x (map node_site (region_nodes p r)) ≡ true) u.around) (region_nodes p r)
 conditions_are_sites p r =
-    let sites = map site_of (region_nodes p r) in
-    conditions_all (λ x. has x (map site_of (region_nodes p r)) ≡ true) (region_in p r) (each_off site_of (λ x. has x (map site_of (region_nodes p r)) ≡ true) (region_nodes p r) (each_has sites))
+    let sites = map node_site (region_nodes p r) in
+    conditions_all (λ x. has x (map node_site (region_nodes p r)) ≡ true) (region_in p r)
+    (each_off node_site (λ x. has x (map node_site (region_nodes p r)) ≡ true) (region_nodes p r) (each_has sites))
 
 -- ---- sites that are an `if`
 
@@ -105,4 +111,5 @@ module _ (R : ℕ → Type 0) where
 pub if_nodes : (p : Program) (r : ℕ) → Each (λ (u : Node). u.is_if ≡ true → has u.site.0 (map site_of_condition (region_ifs p r)) ≡ true) (region_nodes p r)
 if_nodes p r =
     let conditions = map site_of_condition (region_ifs p r) in
-    ifs_are_all (λ x. has x (map site_of_condition (region_ifs p r)) ≡ true) (region_in p r) (each_off site_of_condition (λ x. has x (map site_of_condition (region_ifs p r)) ≡ true) (region_ifs p r) (each_has conditions))
+    ifs_are_all (λ x. has x (map site_of_condition (region_ifs p r)) ≡ true) (region_in p r)
+    (each_off site_of_condition (λ x. has x (map site_of_condition (region_ifs p r)) ≡ true) (region_ifs p r) (each_has conditions))

@@ -12,7 +12,7 @@ use Rattle.dp_plan.specs.Written.{has}
 use Rattle.dp_plan.proofs.Found.{has_each}
 use Rattle.dp_plan.proofs.EachLemmas.{each-lists, each_split}
 use Rattle.dp_depend.specs.declared.nodes.Node.{Node}
-use Rattle.dp_depend.specs.Edges.{site_of}
+use Rattle.dp_depend.specs.Edges.{node_site}
 use Rattle.dp_depend.specs.Node.{loop_of, nodes, nodes_in}
 use Rattle.dp_depend.proofs.NodeSites.{sites_of_row}
 
@@ -66,12 +66,14 @@ module _ (P : ℕ → ℕ → Type 0) (Q : ℕ → Type 0) where
   abbrev pub PlainInside : Enclosing → Type 0
   PlainInside e = Q e.site × Each (P e.site) e.inside
 
-  under : (x : ℕ) (all : List Node) → Each (Around x) all → Each Outside all → Each (P x) (map site_of all)
+  under : (x : ℕ) (all : List Node) → Each (Around x) all → Each Outside all → Each (P x) (map node_site all)
   under x [] around h = tt
   under x (u ∷ rest) around h = (has_each (λ y. P y u.site.0) u.around x h.0.1 around.0, under x rest around.1 h.1)
 
-  under_row : {n : _} (x : ℕ) (around : List ℕ) (loop : Option ℕ) (row : Row_of-Stmt n) → has x around ≡ true → Each Outside (nodes_in around loop row) → Each (P x) (sites_of row)
-  under_row x around loop row e h = subst (λ (l : List ℕ). Each (P x) l) (sites_of_row around loop row) (under x (nodes_in around loop row) (around_row x around loop row e) h)
+  under_row : {n : _} (x : ℕ) (around : List ℕ) (loop : Option ℕ) (row : Row_of-Stmt n) → has x around ≡ true → Each Outside (nodes_in around loop row) →
+      Each (P x) (sites_of row)
+  under_row x around loop row e h =
+      subst (λ (l : List ℕ). Each (P x) l) (sites_of_row around loop row) (under x (nodes_in around loop row) (around_row x around loop row e) h)
 
   mutual
     inside_ifs : (around : List ℕ) (loop : Option ℕ) (s : Stmt) → Each Outside (nodes around loop s) → Each Inside (ifs s)
@@ -99,12 +101,16 @@ module _ (P : ℕ → ℕ → Type 0) (Q : ℕ → Type 0) where
         let both = each_split Outside (nodes_in inner loop a) (nodes_in inner loop b) h.1 in
         each-lists PlainInside (inner_whiles_in a) (inner_whiles_in b) (inside_whiles_in inner loop a both.0) (inside_whiles_in inner loop b both.1)
     inside_whiles around loop (tree.While' site cond _ a) h =
-        let inner = around ++ site.0 ∷ [] in
-        ((h.0.0 refl, under_row site.0 inner (Some (loop_of loop site.0)) a (has_last site.0 around) h.1), inside_whiles_in inner (Some (loop_of loop site.0)) a h.1)
+        let inner = around ++ site.0 ∷ [] in (
+          (h.0.0 refl, under_row site.0 inner (Some (loop_of loop site.0)) a (has_last site.0 around) h.1),
+          inside_whiles_in inner (Some
+              (loop_of loop site.0)) a h.1,
+        )
     inside_whiles around loop (tree.Region' r site cond _ a) h = inside_whiles_in (around ++ site.0 ∷ []) loop a h.1
     inside_whiles around loop _ h = tt
 
-    inside_whiles_in : {n : _} (around : List ℕ) (loop : Option ℕ) (row : Row_of-Stmt n) → Each Outside (nodes_in around loop row) → Each PlainInside (inner_whiles_in row)
+    inside_whiles_in : {n : _} (around : List ℕ) (loop : Option ℕ) (row : Row_of-Stmt n) → Each Outside (nodes_in around loop row) →
+        Each PlainInside (inner_whiles_in row)
     inside_whiles_in around loop end_of-Stmt h = tt
     inside_whiles_in around loop (more_of-Stmt s rest) h =
         let both = each_split Outside (nodes around loop s) (nodes_in around loop rest) h in

@@ -17,7 +17,8 @@ use Rattle.dp_least_cut.specs.Order.{IsBefore, IsKindBefore, IsListBefore, kinds
 use Rattle.dp_least_cut.specs.Order.IsBefore.{by_bottleneck, by_places, by_count, by_kinds}
 
 -- no list comes before another and behind it
-list_once : {X : Type 0} (before : X → X → Type 0) → ((x y : X) → before x y → before y x → ⊥) → (xs ys : List X) → IsListBefore before xs ys → IsListBefore before ys xs → ⊥
+list_once : {X : Type 0} (before : X → X → Type 0) → ((x y : X) → before x y → before y x → ⊥) → (xs ys : List X) → IsListBefore before xs ys →
+    IsListBefore before ys xs → ⊥
 list_once before once [] [] h k = h
 list_once before once [] (y ∷ ys) h k = k
 list_once before once (x ∷ xs) [] h k = h
@@ -26,7 +27,8 @@ list_once before once (x ∷ xs) (y ∷ ys) (inl h) (inr k) = let own = subst (�
 list_once before once (x ∷ xs) (y ∷ ys) (inr h) (inl k) = let own = subst (λ z. before y z) h.0 k in once y y own own
 list_once before once (x ∷ xs) (y ∷ ys) (inr h) (inr k) = list_once before once xs ys h.1 k.1
 
-no_list_before_itself : {X : Type 0} (before : X → X → Type 0) → ((x y : X) → before x y → before y x → ⊥) → (xs ys : List X) → xs ≡ ys → IsListBefore before xs ys → ⊥
+no_list_before_itself : {X : Type 0} (before : X → X → Type 0) → ((x y : X) → before x y → before y x → ⊥) → (xs ys : List X) → xs ≡ ys →
+    IsListBefore before xs ys → ⊥
 no_list_before_itself before once xs ys e h =
     let own : IsListBefore before xs xs = subst (λ zs. IsListBefore before xs zs) (sym e) h in
     list_once before once xs xs own own
@@ -58,7 +60,8 @@ module _ (weights : List ℕ) (workers : ℕ) where
   before_once a b (by_kinds e f g h) (by_count i j k) = omega (arith, g, k)
   before_once a b (by_kinds e f g h) (by_kinds i j l k) = list_once IsKindBefore kind_once (kinds a) (kinds b) h k
 
-  one_cut : (carried : List (ℕ × ℕ)) (most : ℕ) (a b : List Stretch) → IsLeastCut weights carried most workers a → IsLeastCut weights carried most workers b → a ≡ b
+  one_cut : (carried : List (ℕ × ℕ)) (most : ℕ) (a b : List Stretch) → IsLeastCut weights carried most workers a →
+      IsLeastCut weights carried most workers b → a ≡ b
   one_cut carried most a b x y = elim (x.first b y.allowed) [
     | inl same ↦ same
     | inr before ↦ elim (y.first a x.allowed) [
@@ -76,11 +79,15 @@ module _ (p : Program) (profile : Option Profile) (rate most workers : ℕ) wher
       let placed : ArePlaces count pairs x.order y.places = subst (λ (order : List ℕ). ArePlaces count pairs order y.places) orders y.placed in
       let places : y.places ≡ x.places = same_places count pairs x.order y.places x.places x.ordered placed x.placed in
       let moved : IsLeastPlan p r (edges_of p r profile rate) (chosen_of p r profile rate) x.order x.places (weights_of p r profile) most workers b =
-      subst (λ (ps : List ℕ). IsLeastPlan p r (edges_of p r profile rate) (chosen_of p r profile rate) x.order ps (weights_of p r profile) most workers b) places
-      (subst (λ (order : List ℕ). IsLeastPlan p r (edges_of p r profile rate) (chosen_of p r profile rate) order y.places (weights_of p r profile) most workers b) orders y.least) in
-      x.least.is ∙ ap (plan_of_cut p r x.places (chosen_of p r profile rate)) (one_cut _ workers _ most x.least.cut moved.cut x.least.least moved.least) ∙ sym moved.is
+      subst (λ (ps : List ℕ). IsLeastPlan p r (edges_of p r profile rate) (chosen_of p r profile rate) x.order ps (weights_of p r profile)
+      most workers b) places
+      (subst (λ (order : List ℕ). IsLeastPlan p r (edges_of p r profile rate) (chosen_of p r profile rate) order y.places (weights_of p r profile) most workers
+      b) orders y.least) in
+      x.least.is ∙ ap (plan_of_cut p r x.places (chosen_of p r profile rate)) (one_cut _ workers _ most x.least.cut moved.cut x.least.least moved.least)
+      ∙ sym moved.is
 
-  one_list : (a b : List Plan) → map region_of a ≡ map region_of b → Each (λ (plan : Plan). IsAutomatic p plan.region profile rate most workers plan) a → Each (λ (plan : Plan). IsAutomatic p plan.region profile rate most workers plan) b → a ≡ b
+  one_list : (a b : List Plan) → map region_of a ≡ map region_of b → Each (λ (plan : Plan). IsAutomatic p plan.region profile rate most workers plan) a →
+      Each (λ (plan : Plan). IsAutomatic p plan.region profile rate most workers plan) b → a ≡ b
   one_list [] [] e x y = refl
   one_list [] (b ∷ bs) e x y = absurd (cc e)
   one_list (a ∷ rest) [] e x y = absurd (cc e)

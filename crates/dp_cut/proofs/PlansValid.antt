@@ -6,12 +6,12 @@ use Rattle.dp_tree.specs.Numbering.{numbers_from}
 use Rattle.dp_plan.specs.declared.Plan.{Plan}
 use Rattle.dp_plan.specs.GivenPlans.{ArePlans, HasVersion, IsPlan, region_of}
 use Rattle.dp_plan.specs.Each.{Each}
-use Rattle.dp_plan.specs.GivenPlans.{version_of}
+use Rattle.dp_plan.specs.GivenPlans.{plans_version}
 use Rattle.dp_profile.specs.declared.Profile.{Profile}
 use Rattle.dp_cut.specs.Automatic.{AreAutomatic, IsAutomatic}
 use Rattle.dp_cut.proofs.LeastValid.{least_valid}
 
-one_version : (plans : List Plan) → Each (HasVersion true) plans → Each (HasVersion (version_of plans)) plans
+one_version : (plans : List Plan) → Each (HasVersion true) plans → Each (HasVersion (plans_version plans)) plans
 one_version [] each = tt
 one_version (plan ∷ rest) each = subst (λ (v : Bool). Each (HasVersion v) (plan ∷ rest)) (sym each.0) each
 
@@ -23,7 +23,8 @@ module _ (p : Program) (inlined : IsInlined p) (profile : Option Profile) (rate 
   versions [] each = tt
   versions (plan ∷ rest) each = (ap (λ (q : Plan). q.proved) each.0.least.is, versions rest each.1)
 
-  each_valid : (plans : List Plan) → most < 9 → (k n : ℕ) → 1 ≤ k → k + n ≤ 1 + length p.regions → map region_of plans ≡ numbers_from k n → Each Least plans → Each (IsPlan p) plans
+  each_valid : (plans : List Plan) → most < 9 → (k n : ℕ) → 1 ≤ k → k + n ≤ 1 + length p.regions → map region_of plans ≡ numbers_from k n → Each Least plans →
+      Each (IsPlan p) plans
   each_valid [] few k n low high numbers each = tt
   each_valid (plan ∷ rest) few k zero low high numbers each = absurd (cc numbers)
   each_valid (plan ∷ rest) few k (suc n) low high numbers each =

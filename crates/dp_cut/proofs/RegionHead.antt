@@ -33,18 +33,23 @@ unfolding node_lists
 around_lists x around all h = around_all x around None all h
 
 pub region_headed : (p : Program) → IsInlined p → (r : ℕ) → 1 ≤ r → r < 1 + length p.regions → Headed (region_nodes p r)
-region_headed p inlined r low high = by (find_region p.main 1 1 p.regions inlined.regions inlined.table (subst (λ (ns : List ℕ). Ascends 1 ns) (sym inlined.sites) (ascends-numbers_from 1 (length p.sites))) r)
+region_headed p inlined r low high =
+    by (find_region p.main 1 1 p.regions inlined.regions inlined.table (subst (λ (ns : List ℕ). Ascends 1 ns) (sym inlined.sites)
+    (ascends-numbers_from 1 (length p.sites))) r)
   where
     by : Sought r 1 1 p.main p.regions → Headed (region_nodes p r)
     by (absent none out) = absurd (out low high)
     by (present entry from at region least most) =
         let site = region.site in
-        let same : region_nodes p r ≡ nodes [] None region.statement = ap (λ (xs : List Stmt). flat_map (nodes [] None) xs) region.only ∙ append-nil (nodes [] None region.statement) in
-        let made : nodes [] None region.statement ≡ node_list [] None (tree.Region r region.site region.cond region.body) = sym (list_is region.statement) ∙ ap (node_list [] None) region.made in
+        let same : region_nodes p r ≡ nodes [] None region.statement = ap (λ (xs : List Stmt). flat_map (nodes [] None) xs) region.only
+        ∙ append-nil (nodes [] None region.statement) in
+        let made : nodes [] None region.statement ≡ node_list [] None (tree.Region r region.site region.cond region.body) = sym (list_is region.statement)
+        ∙ ap (node_list [] None) region.made in
         record {
           first = plain_node [] None region.site (load_list region.cond) None;
           rest = node_lists ([] ++ region.site.0 ∷ []) None region.body;
           are = same ∙ made ∙ nodes-Region [] None r region.site region.cond region.body;
           plain = refl;
-          around = around_lists region.site.0 ([] ++ region.site.0 ∷ []) region.body (or_left (region.site.0 == region.site.0) false (eq-eqb region.site.0 region.site.0 refl));
+          around = around_lists region.site.0 ([] ++ region.site.0 ∷ []) region.body (or_left (region.site.0 == region.site.0) false
+              (eq-eqb region.site.0 region.site.0 refl));
         }

@@ -3,9 +3,9 @@ use Rattle.std.proofs.Common.{◌≡◌, ◌∙◌, ap, inl, inr, refl, arith, �
 use Rattle.std.proofs.lemmas.Bool.{cases_Bool, cases_eq, ltb-true, ltb-false, lt-ltb, le-ltb, true≢false}
 use Rattle.dp_least_cut.specs.declared.Stretch.{Stretch}
 use Rattle.dp_least_cut.specs.Allowed.{AreStages}
-use Rattle.dp_cut.specs.LeastPlan.{stage_at}
+use Rattle.dp_cut.specs.LeastPlan.{stage_of_unit}
 
-pub stage_least : (k : ℕ) (cut : List Stretch) (a : ℕ) → k ≤ stage_at k cut a
+pub stage_least : (k : ℕ) (cut : List Stretch) (a : ℕ) → k ≤ stage_of_unit k cut a
 stage_least k [] a = omega arith
 stage_least k (s ∷ rest) a = elim (cases_Bool (nat_lt a s.units)) [
   | inl t ↦ rw t (omega arith)
@@ -13,7 +13,7 @@ stage_least k (s ∷ rest) a = elim (cases_Bool (nat_lt a s.units)) [
 ]
 
 -- a later unit is in no earlier stage
-pub stage_rises : (k : ℕ) (cut : List Stretch) (a b : ℕ) → a ≤ b → stage_at k cut a ≤ stage_at k cut b
+pub stage_rises : (k : ℕ) (cut : List Stretch) (a b : ℕ) → a ≤ b → stage_of_unit k cut a ≤ stage_of_unit k cut b
 stage_rises k [] a b h = omega arith
 stage_rises k (s ∷ rest) a b h = elim (cases_Bool (nat_lt a s.units)) [
   | inl t ↦ rw t (stage_least k (s ∷ rest) b)
@@ -29,7 +29,8 @@ module _ (carried : List (ℕ × ℕ)) (count : ℕ) where
   within closed begin (s ∷ rest) stages = let later = within s.replicated (begin + s.units) rest stages.2 in omega (arith, later)
 
   -- each unit is in one of the stages
-  pub stage_most : (k : ℕ) (closed : Bool) (begin : ℕ) (cut : List Stretch) (a : ℕ) → AreStages carried count closed begin cut → begin + a < count → stage_at k cut a < k + length cut
+  pub stage_most : (k : ℕ) (closed : Bool) (begin : ℕ) (cut : List Stretch) (a : ℕ) → AreStages carried count closed begin cut → begin + a < count →
+      stage_of_unit k cut a < k + length cut
   stage_most k closed begin [] a stages h = absurd (omega (arith, stages, h))
   stage_most k closed begin (s ∷ rest) a stages h = elim (cases_Bool (nat_lt a s.units)) [
     | inl t ↦ rw t (omega arith)
@@ -40,7 +41,8 @@ module _ (carried : List (ℕ × ℕ)) (count : ℕ) where
   ]
 
   -- the first unit is in the first stage, which is sequential
-  pub first_stage : (k : ℕ) (closed : Bool) (begin : ℕ) (cut : List Stretch) → AreStages carried count closed begin cut → begin < count → stage_at k cut 0 ≡ k
+  pub first_stage : (k : ℕ) (closed : Bool) (begin : ℕ) (cut : List Stretch) → AreStages carried count closed begin cut → begin < count →
+      stage_of_unit k cut 0 ≡ k
   first_stage k closed begin [] stages h = absurd (omega (arith, stages, h))
   first_stage k closed begin (s ∷ rest) stages h = rw (lt-ltb 0 s.units stages.0) refl
 
@@ -51,7 +53,8 @@ module _ (carried : List (ℕ × ℕ)) (count : ℕ) where
   ]
 
   -- each stage has a unit
-  pub stage_reached : (k : ℕ) (closed : Bool) (begin : ℕ) (cut : List Stretch) → AreStages carried count closed begin cut → (j : ℕ) → k ≤ j → j < k + length cut → (a : ℕ) × (begin + a < count) × (stage_at k cut a ≡ j)
+  pub stage_reached : (k : ℕ) (closed : Bool) (begin : ℕ) (cut : List Stretch) → AreStages carried count closed begin cut → (j : ℕ) → k ≤ j →
+      j < k + length cut → (a : ℕ) × (begin + a < count) × (stage_of_unit k cut a ≡ j)
   stage_reached k closed begin [] stages j low high = absurd (omega (arith, low, high))
   stage_reached k closed begin (s ∷ rest) stages j low high = elim (cases_eq k j) [
     | inl here ↦
@@ -62,5 +65,5 @@ module _ (carried : List (ℕ × ℕ)) (count : ℕ) where
         let past : nat_lt (s.units + later.0) s.units ≡ false = le-ltb (s.units + later.0) s.units (omega arith) in
         let left : (s.units + later.0) - s.units ≡ later.0 = omega arith in
         let within = later.1 in
-        (s.units + later.0, omega (arith, within), rw past (ap (stage_at (k + 1) rest) left ∙ later.2))
+        (s.units + later.0, omega (arith, within), rw past (ap (stage_of_unit (k + 1) rest) left ∙ later.2))
   ]

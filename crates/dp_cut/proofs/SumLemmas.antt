@@ -1,5 +1,6 @@
 -- The weights of units.
-use Rattle.std.proofs.Common.{◌≡◌, inl, inr, refl, ◌∙◌, ap, arith, ℕ, zero, suc, ◌+◌, ◌-◌, ◌<◌, ◌≤◌, ◌==◌, if◌then◌else◌, Bool, true, false, List, [], ◌∷◌, length, map, sum, drop, add-one, slice_index_or}
+use Rattle.std.proofs.Common.{◌≡◌, inl, inr, refl, ◌∙◌, ap, arith, ℕ, zero, suc, ◌+◌, ◌-◌, ◌<◌, ◌≤◌, ◌==◌, if◌then◌else◌, Bool, true, false, List, [], ◌∷◌}
+use Rattle.std.proofs.Common.{length, map, sum, drop, add-one, slice_index_or}
 use Rattle.std.proofs.lemmas.Bool.{cases_eq, ne_eqb}
 use Rattle.std.proofs.lemmas.List.{length-map}
 use Rattle.std.proofs.lemmas.List.Sums.{sum_by-cons}
@@ -20,14 +21,17 @@ sum_cons x xs = sum_by-cons (λ (y : ℕ). y) x xs
 pub unit_weight_le : (places weights : List ℕ) (k : ℕ) → unit_weight places weights k ≤ sum weights
 unit_weight_le [] weights k = omega arith
 unit_weight_le (q ∷ places) [] k = omega arith
-unit_weight_le (q ∷ places) (w ∷ weights) k = let rest = unit_weight_le places weights k in let one = share_le (q == k) w in let all = sum_cons w weights in omega (arith, rest, one, all)
+unit_weight_le (q ∷ places) (w ∷ weights) k = let rest = unit_weight_le places weights k in let one = share_le (q == k) w in let all = sum_cons w weights in
+    omega (arith, rest, one, all)
 
 pub unit_next : (places weights : List ℕ) (k i : ℕ) → i < length places → length places ≡ length weights
-    → unit_weight (drop i places) (drop i weights) k ≡ share_of (slice_index_or places i 0) k (slice_index_or weights i 0) + unit_weight (drop (i + 1) places) (drop (i + 1) weights) k
+    → unit_weight (drop i places) (drop i weights) k ≡ share_of (slice_index_or places i 0) k (slice_index_or weights i 0) + unit_weight (drop (i + 1) places)
+    (drop (i + 1) weights) k
 unit_next places weights k i h e = rw add-one (by places weights i h e)
   where
     by : (places weights : List ℕ) (i : ℕ) → i < length places → length places ≡ length weights
-        → unit_weight (drop i places) (drop i weights) k ≡ share_of (slice_index_or places i 0) k (slice_index_or weights i 0) + unit_weight (drop (suc i) places) (drop (suc i) weights) k
+        → unit_weight (drop i places) (drop i weights) k ≡ share_of (slice_index_or places i 0) k (slice_index_or weights i 0) + unit_weight
+        (drop (suc i) places) (drop (suc i) weights) k
     by [] weights i h e = absurd (omega (arith, h))
     by (q ∷ places) [] i h e = absurd (omega (arith, e))
     by (q ∷ places) (w ∷ weights) zero h e = refl
@@ -64,7 +68,8 @@ shared_once q w i (suc m) =
           let rest = shared_once q w (i + 1) m in omega (arith, here, rest, all)
     ]
 
-split_sum : (q w : ℕ) (places weights ks : List ℕ) → sum (map (unit_weight (q ∷ places) (w ∷ weights)) ks) ≡ sum (shares q w ks) + sum (map (unit_weight places weights) ks)
+split_sum : (q w : ℕ) (places weights ks : List ℕ) → sum (map (unit_weight (q ∷ places) (w ∷ weights)) ks) ≡ sum (shares q w ks) + sum
+    (map (unit_weight places weights) ks)
 split_sum q w places weights [] = refl
 split_sum q w places weights (k ∷ ks) =
     let rest = split_sum q w places weights ks in

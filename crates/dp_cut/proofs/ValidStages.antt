@@ -9,7 +9,7 @@ use Rattle.dp_plan.specs.declared.Enclosing.{Enclosing}
 use Rattle.dp_plan.specs.Each.{AscendAbove, Each}
 use Rattle.dp_plan.specs.Rules.{assumed_site, comes_late, is_late_unassumed, occurs_again}
 use Rattle.dp_plan.specs.Stage.{stage_of}
-use Rattle.dp_plan.specs.Written.{has, listed, region_sites, written_of, written_stage}
+use Rattle.dp_plan.specs.Written.{has, listed_sites, region_sites, written_of, written_stage}
 use Rattle.dp_plan.proofs.EachLemmas.{each_map}
 use Rattle.dp_plan.proofs.Found.{each_has}
 use Rattle.dp_plan.proofs.SameNumbers.{count}
@@ -25,30 +25,35 @@ module _ (p : Program) (plan : Plan) (up : AscendAbove 0 (region_sites p plan.re
   abbrev w : WrittenPlan
   w = written_of p plan
 
-  has_listed : (x : ℕ) → has x (region_sites p plan.region) ≡ true → has x (listed (written_of p plan)) ≡ true
+  has_listed : (x : ℕ) → has x (region_sites p plan.region) ≡ true → has x (listed_sites (written_of p plan)) ≡ true
   has_listed x e = is_listed p plan 1 plan.stages x e (within x e).0 (within x e).1
 
-  pub all_listed : Each (λ site. has site (listed (written_of p plan)) ≡ true) (region_sites p plan.region)
-  all_listed = each_map (λ n. has n (region_sites p plan.region) ≡ true) (λ n. has n (listed w) ≡ true) has_listed (region_sites p plan.region) (each_has (region_sites p plan.region))
+  pub all_listed : Each (λ site. has site (listed_sites (written_of p plan)) ≡ true) (region_sites p plan.region)
+  all_listed = each_map (λ n. has n (region_sites p plan.region) ≡ true) (λ n. has n (listed_sites w) ≡ true) has_listed (region_sites p plan.region)
+      (each_has (region_sites p plan.region))
 
-  pub none_again : Each (λ site. occurs_again (listed (written_of p plan)) site ≡ false) (listed (written_of p plan))
-  none_again = each_map (λ n. has n (listed w) ≡ true) (λ n. occurs_again (listed w) n ≡ false) (λ n e. not_again n (listed w) (listed_once p plan up 1 plan.stages n)) (listed w) (each_has (listed w))
+  pub none_again : Each (λ site. occurs_again (listed_sites (written_of p plan)) site ≡ false) (listed_sites (written_of p plan))
+  none_again = each_map (λ n. has n (listed_sites w) ≡ true) (λ n. occurs_again (listed_sites w) n ≡ false)
+      (λ n e. not_again n (listed_sites w) (listed_once p plan up 1 plan.stages n)) (listed_sites w) (each_has (listed_sites w))
 
-  pub none_foreign : Each (λ site. has site (region_sites p plan.region) ≡ true) (listed (written_of p plan))
-  none_foreign = each_map (λ n. has n (listed w) ≡ true) (λ n. has n (region_sites p plan.region) ≡ true) (λ n e. (listed_where p plan 1 plan.stages n e).0) (listed w) (each_has (listed w))
+  pub none_foreign : Each (λ site. has site (region_sites p plan.region) ≡ true) (listed_sites (written_of p plan))
+  none_foreign = each_map (λ n. has n (listed_sites w) ≡ true) (λ n. has n (region_sites p plan.region) ≡ true)
+      (λ n e. (listed_where p plan 1 plan.stages n e).0) (listed_sites w) (each_has (listed_sites w))
 
   pub stage_written : (x : ℕ) → has x (region_sites p plan.region) ≡ true → written_stage (written_of p plan) x ≡ stage_of p plan x
   stage_written x e = stage_back p plan 1 plan.stages x (has_listed x e)
 
   -- both are sites, and the first, a condition, is in no later stage than the second, or an outcome of it is assumed
   abbrev pub InTime : ℕ → ℕ → Type 0
-  InTime x y = (has x (region_sites p plan.region) ≡ true) × (has y (region_sites p plan.region) ≡ true) × ((stage_of p plan x ≤ stage_of p plan y) ⊎ (has x (map assumed_site plan.assume) ≡ true))
+  InTime x y = (has x (region_sites p plan.region) ≡ true) × (has y (region_sites p plan.region) ≡ true)
+      × ((stage_of p plan x ≤ stage_of p plan y) ⊎ (has x (map assumed_site plan.assume) ≡ true))
 
   -- no outcome of the site is assumed
   abbrev pub Unassumed : ℕ → Type 0
   Unassumed x = has x (map assumed_site plan.assume) ≡ false
 
-  no_later : (x : ℕ) (inside : List ℕ) → has x (map assumed_site plan.assume) ≡ false → Each (InTime x) inside → list_any (λ site. nat_lt (written_stage w site) (written_stage w x)) inside ≡ false
+  no_later : (x : ℕ) (inside : List ℕ) → has x (map assumed_site plan.assume) ≡ false → Each (InTime x) inside →
+      list_any (λ site. nat_lt (written_stage w site) (written_stage w x)) inside ≡ false
   no_later x [] free h = refl
   no_later x (y ∷ rest) free h = elim h.0.2 [
     | inl le ↦ elim (cases_Bool (nat_lt (written_stage w y) (written_stage w x))) [

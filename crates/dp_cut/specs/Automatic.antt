@@ -9,19 +9,19 @@ use Rattle.dp_profile.specs.declared.Profile.{Profile}
 use Rattle.dp_depend.specs.declared.Edge.{Edge}
 use Rattle.dp_depend.specs.declared.nodes.Node.{Node}
 use Rattle.dp_depend.specs.Node.{region_nodes}
-use Rattle.dp_depend.specs.Edges.{chosen_of, edges_of, first_of}
-use Rattle.dp_depend.specs.Shown.{count_of, region_profile}
+use Rattle.dp_depend.specs.Edges.{chosen_of, edges_of, first_in_region}
+use Rattle.dp_depend.specs.Shown.{counts_at, region_profile}
 use Rattle.dp_units.specs.Order.{ArePlaces, IsOrder}
 use Rattle.dp_cut.specs.LeastPlan.{IsLeastPlan}
 
 -- the weight of a site: its runs, or 1 without a profile
 abbrev pub site_weight : Option Profile → ℕ → ℕ → Node → ℕ
 site_weight None r first n = 1
-site_weight (Some profile) r first n = (count_of (region_profile (Some profile) r).sites first n.site.0).runs
+site_weight (Some profile) r first n = (counts_at (region_profile (Some profile) r).sites first n.site.0).runs
 
 -- the weights of a region's sites, in text order
 abbrev pub weights_of : Program → ℕ → Option Profile → List ℕ
-weights_of p r profile = map (site_weight profile r (first_of p r)) (region_nodes p r)
+weights_of p r profile = map (site_weight profile r (first_in_region p r)) (region_nodes p r)
 
 -- the ends of an edge, where the region's first site has number 0
 abbrev pub node_pair : ℕ → Edge → ℕ × ℕ
@@ -29,7 +29,7 @@ node_pair first e = (e.from.0 - first, e.to.0 - first)
 
 -- the edges of the region as pairs of numbers
 abbrev pub node_pairs : Program → ℕ → Option Profile → ℕ → List (ℕ × ℕ)
-node_pairs p r profile rate = map (node_pair (first_of p r)) (edges_of p r profile rate)
+node_pairs p r profile rate = map (node_pair (first_in_region p r)) (edges_of p r profile rate)
 
 -- the plan is the least of region r, in at most so many stages, for so many workers
 pub record IsAutomatic (p : Program) (r : ℕ) (profile : Option Profile) (rate most workers : ℕ) (plan : Plan) : Type 0 where

@@ -15,7 +15,7 @@ use Rattle.dp_depend.specs.declared.EdgeKind.{EdgeKind}
 use Rattle.dp_depend.specs.declared.EdgeKind.TheVariants.{Control, Intra, Carried}
 use Rattle.dp_depend.specs.declared.nodes.Node.{Node}
 use Rattle.dp_depend.specs.Node.{region_nodes}
-use Rattle.dp_depend.specs.Edges.{first_of}
+use Rattle.dp_depend.specs.Edges.{first_in_region}
 use Rattle.dp_least_cut.specs.declared.Stretch.{Stretch}
 use Rattle.dp_least_cut.specs.LeastCut.{IsLeastCut}
 
@@ -46,43 +46,44 @@ abbrev pub carried_pairs : List ℕ → ℕ → List Edge → List (ℕ × ℕ)
 carried_pairs places first edges = flat_map (carried_pair places first) edges
 
 -- the stage of the unit so many places behind the first one of these stages, of which the first has number k
-abbrev pub stage_at : ℕ → List Stretch → ℕ → ℕ
-stage_at k [] place = k
-stage_at k (s ∷ rest) place = if nat_lt place s.units then k else stage_at (k + 1) rest (place - s.units)
+abbrev pub stage_of_unit : ℕ → List Stretch → ℕ → ℕ
+stage_of_unit k [] place = k
+stage_of_unit k (s ∷ rest) place = if nat_lt place s.units then k else stage_of_unit (k + 1) rest (place - s.units)
 
-abbrev pub kind_of : Stretch → StageKind
-kind_of s = if s.replicated then Par else Seq
+abbrev pub stretch_kind : Stretch → StageKind
+stretch_kind s = if s.replicated then Par else Seq
 
 -- the stages of the sites whose units have these places
 abbrev pub stages_of : List Stretch → List ℕ → List ℕ
-stages_of cut places = map (stage_at 1 cut) places
+stages_of cut places = map (stage_of_unit 1 cut) places
 
 -- a site inside the statement is in an earlier stage than its condition
-abbrev pub comes_late : List ℕ → ℕ → ℕ → Node → Bool
-comes_late stages first site u = has site u.around && nat_lt (at_site stages first u.site.0) (at_site stages first site)
+abbrev pub stands_late : List ℕ → ℕ → ℕ → Node → Bool
+stands_late stages first site u = has site u.around && nat_lt (at_site stages first u.site.0) (at_site stages first site)
 
 -- the outcome has to be assumed
-abbrev pub is_needed : List ℕ → ℕ → List Node → Assume → Bool
-is_needed stages first nodes a = list_any (comes_late stages first a.site.0) nodes
+abbrev pub must_assume : List ℕ → ℕ → List Node → Assume → Bool
+must_assume stages first nodes a = list_any (stands_late stages first a.site.0) nodes
 
 -- the plan without its table that a cut stands for
-abbrev pub plan_before_table : Program → ℕ → List ℕ → List Assume → List Stretch → Plan
-plan_before_table p r places chosen cut = record {
+abbrev pub cut_plan_before_table : Program → ℕ → List ℕ → List Assume → List Stretch → Plan
+cut_plan_before_table p r places chosen cut = record {
   region = r;
   words = MOST_WORDS;
-  stages = map kind_of cut;
+  stages = map stretch_kind cut;
   stage_of = stages_of cut places;
-  assume = filter (is_needed (stages_of cut places) (first_of p r) (region_nodes p r)) chosen;
+  assume = filter (must_assume (stages_of cut places) (first_in_region p r) (region_nodes p r)) chosen;
   proved = true;
   checked_at = [];
 }
 
 -- the plan that a cut stands for
 abbrev pub plan_of_cut : Program → ℕ → List ℕ → List Assume → List Stretch → Plan
-plan_of_cut p r places chosen cut = with_table p (plan_before_table p r places chosen cut)
+plan_of_cut p r places chosen cut = with_table p (cut_plan_before_table p r places chosen cut)
 
 -- the plan of the least cut of a graph's units; `order` lists the units, and `places` has for each site the place of its unit
-pub record IsLeastPlan (p : Program) (r : ℕ) (edges : List Edge) (chosen : List Assume) (order places weights : List ℕ) (most workers : ℕ) (plan : Plan) : Type 0 where
+pub record IsLeastPlan (p : Program) (r : ℕ) (edges : List Edge) (chosen : List Assume) (order places weights : List ℕ) (most workers : ℕ)
+    (plan : Plan) : Type 0 where
   pub cut : List Stretch
-  pub least : IsLeastCut (unit_weights (length order) places weights) (carried_pairs places (first_of p r) edges) most workers cut
+  pub least : IsLeastCut (unit_weights (length order) places weights) (carried_pairs places (first_in_region p r) edges) most workers cut
   pub is : plan ≡ plan_of_cut p r places chosen cut

@@ -3,7 +3,7 @@ ghost use Rattle.std.specs.Prelude.{◌≡◌, ◌≤◌, ◌<◌, ◌-◌, ◌�
 ghost use Rattle.std.specs.Option.{option_copied};
 ghost use Rattle.dp_tree.specs.Inlined.{IsInlined};
 ghost use Rattle.dp_plan.specs.GivenPlans.{ArePlans};
-ghost use Rattle.dp_depend.specs.Edges.{first_of as first_site};
+ghost use Rattle.dp_depend.specs.Edges.{first_in_region as first_site};
 ghost use Rattle.dp_units.specs.Graph.{AreWithin};
 ghost use Rattle.dp_units.specs.Order.{ArePlaces, IsOrder};
 ghost use Rattle.dp_cut.specs.Automatic as spec;
@@ -127,7 +127,8 @@ fn least_plan(alloc: Global, p: &Program, region: u32, wishes: Wishes<'_>) -> Re
     requires few_stages { wishes.stages < 9 }
     requires workers { 0 < wishes.workers }
     requires few_workers { wishes.workers < 9 }
-    ensures { IfOk result (λ plan. spec.IsAutomatic p.now region (option_copied wishes.entry.profile) wishes.entry.rate wishes.entry.stages wishes.entry.workers plan) }
+    ensures { IfOk result (λ plan. spec.IsAutomatic p.now region (option_copied wishes.entry.profile) wishes.entry.rate wishes.entry.stages
+        wishes.entry.workers plan) }
 {
     let weights = light_weights(alloc, p, region, wishes.profile)?;
     let loads = weights.as_slice();
@@ -154,7 +155,8 @@ pub fn least_plans(alloc: Global, p: &Program, wishes: Wishes<'_>) -> Result<Row
     requires few_stages { wishes.stages < 9 }
     requires workers { 0 < wishes.workers }
     requires few_workers { wishes.workers < 9 }
-    ensures least { IfOk result (λ plans. spec.AreAutomatic p.now (option_copied wishes.entry.profile) wishes.entry.rate wishes.entry.stages wishes.entry.workers plans) }
+    ensures least { IfOk result (λ plans. spec.AreAutomatic p.now (option_copied wishes.entry.profile) wishes.entry.rate wishes.entry.stages
+        wishes.entry.workers plans) }
     ensures fit { IfOk result (λ plans. ArePlans p.now plans) }
 {
     let mut plans = Row::new(alloc);

@@ -1,6 +1,6 @@
 //! The least cut as a plan.
 ghost use Rattle.std.specs.Prelude.{◌≡◌, ◌<◌, ◌^◌, length, map, filter, sum, IfOk};
-ghost use Rattle.dp_depend.specs.Edges.{first_of};
+ghost use Rattle.dp_depend.specs.Edges.{first_in_region};
 ghost use Rattle.dp_cut.specs.LeastPlan as spec;
 
 use crate::sums::{at_site, carried_pairs, unit_weights};
@@ -15,7 +15,7 @@ use dp_units::Units;
 use std::alloc::Global;
 
 fn kind_of(stretch: Stretch) -> StageKind
-    ensures { result ≡ spec.kind_of stretch }
+    ensures { result ≡ spec.stretch_kind stretch }
 {
     if stretch.replicated {
         StageKind::Par
@@ -25,7 +25,7 @@ fn kind_of(stretch: Stretch) -> StageKind
 }
 
 fn kinds_of(alloc: Global, cut: &[Stretch]) -> Result<Row<StageKind>, NoMemory>
-    ensures { IfOk result (λ kinds. kinds ≡ map spec.kind_of cut.now) }
+    ensures { IfOk result (λ kinds. kinds ≡ map spec.stretch_kind cut.now) }
 {
     let mut kinds = Row::new(alloc);
     for stretch in cut {
@@ -37,7 +37,7 @@ fn kinds_of(alloc: Global, cut: &[Stretch]) -> Result<Row<StageKind>, NoMemory>
 /// The stage of the unit at a place.
 fn stage_at(cut: &[Stretch], place: u32) -> u32
     requires { length cut.now < 9 }
-    ensures { result ≡ spec.stage_at 1 cut.now place }
+    ensures { result ≡ spec.stage_of_unit 1 cut.now place }
 {
     let mut left = place;
     let mut stage = 1;
@@ -65,7 +65,7 @@ fn stages_of(alloc: Global, cut: &[Stretch], places: &[u32]) -> Result<Row<u32>,
 
 /// The node stands inside the statement of this condition, and is in an earlier stage.
 fn comes_late(stages: &[u32], first: u32, site: u32, node: &Node) -> bool
-    ensures { result ≡ spec.comes_late stages.now first site node.now }
+    ensures { result ≡ spec.stands_late stages.now first site node.now }
 {
     node.around.as_slice().contains(&site)
         && at_site(stages, first, node.site.0) < at_site(stages, first, site)
@@ -73,7 +73,7 @@ fn comes_late(stages: &[u32], first: u32, site: u32, node: &Node) -> bool
 
 /// The outcome has to be assumed.
 fn is_needed(stages: &[u32], first: u32, nodes: &[Node], outcome: &Assume) -> bool
-    ensures { result ≡ spec.is_needed stages.now first nodes.now outcome.now }
+    ensures { result ≡ spec.must_assume stages.now first nodes.now outcome.now }
 {
     for node in nodes {
         if comes_late(stages, first, outcome.site.0, node) {
@@ -91,7 +91,7 @@ fn needed(
     nodes: &[Node],
     chosen: &[Assume],
 ) -> Result<Row<Assume>, NoMemory>
-    ensures { IfOk result (λ assume. assume ≡ filter (spec.is_needed stages.now first nodes.now) chosen.now) }
+    ensures { IfOk result (λ assume. assume ≡ filter (spec.must_assume stages.now first nodes.now) chosen.now) }
 {
     let mut assume = Row::new(alloc);
     for outcome in chosen {
@@ -155,7 +155,8 @@ pub fn cut(
     requires few_stages { stages < 9 }
     requires workers { 0 < workers }
     requires few_workers { workers < 9 }
-    ensures { IfOk result (λ plan. spec.IsLeastPlan p.now region graph.now.edges graph.now.chosen units.now.order units.now.place_of weights.now stages workers plan) }
+    ensures { IfOk result (λ plan. spec.IsLeastPlan p.now region graph.now.edges graph.now.chosen units.now.order units.now.place_of weights.now
+        stages workers plan) }
 {
     let places = units.places();
     let count = units.order().len() as u32;

@@ -31,7 +31,7 @@ fn runs_of(count: Option<&SiteCount>) -> u64
 
 /// How often the site ran.
 fn runs_at(counts: &[SiteCount], first: u32, node: &Node) -> u64
-    ensures { result ≡ (shown.count_of counts.now first node.now.site.0).runs }
+    ensures { result ≡ (shown.counts_at counts.now first node.now.site.0).runs }
 {
     if first <= node.site.0 {
         runs_of(counts.get((node.site.0 - first) as usize))

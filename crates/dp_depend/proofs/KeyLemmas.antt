@@ -19,7 +19,8 @@ SoFar counts first rate keys rest flows =
     → (has (key from to carried) keys || list_any (passes counts first rate from to carried) rest) ≡ list_any (passes counts first rate from to carried) flows
 
 -- in another order
-pub moved : (counts : List SiteCount) (flows : List Flow) (first rate : ℕ) (keys sorted : List ℕ) → HasFrequent counts flows first rate keys → IsPermutation keys sorted → IsNonDecreasing sorted → AreFrequent counts flows first rate sorted
+pub moved : (counts : List SiteCount) (flows : List Flow) (first rate : ℕ) (keys sorted : List ℕ) → HasFrequent counts flows first rate keys →
+    IsPermutation keys sorted → IsNonDecreasing sorted → AreFrequent counts flows first rate sorted
 moved counts flows first rate keys sorted right same up = record {
   ascend = up;
   right = λ from to carried hf ht. sym (list_any-IsPermutation (λ n. n == key from to carried) keys sorted same) ∙ right from to carried hf ht;

@@ -44,4 +44,5 @@ pub load-Or : (a b : Expr) → load_list (expr.Or a b) ≡ load_list a ++ load_l
 unfolding load_list opened
 load-Or a b = refl
 
-pub ruleset load_forms = (load-Number, load-InputLen, load-Scalar, load-Input, load-Element, load-Unary, load-Binary, load-And, load-Or, append_assoc, append-nil)
+pub ruleset load_forms =
+    (load-Number, load-InputLen, load-Scalar, load-Input, load-Element, load-Unary, load-Binary, load-And, load-Or, append_assoc, append-nil)

@@ -14,17 +14,20 @@ use Rattle.dp_depend.specs.Node.{nodes, nodes_in, plain_node, if_node, loop_of, 
 use Rattle.dp_depend.specs.Lists.{load_list, node_list, node_lists, nodes_in_region}
 use Rattle.dp_room.proofs.ListLemmas.{next_of}
 
-nodes_hidden : (around : List ℕ) (loop : Option ℕ) (xs : List Stmt) → nodes_in around loop (Rattle.dp_tree.specs.declared.Stmt.TheBlock.hidden-the_row-Stmt-0 xs) ≡ flat_map (nodes around loop) xs
+nodes_hidden : (around : List ℕ) (loop : Option ℕ) (xs : List Stmt) →
+    nodes_in around loop (Rattle.dp_tree.specs.declared.Stmt.TheBlock.hidden-the_row-Stmt-0 xs) ≡ flat_map (nodes around loop) xs
 unfolding opened
 nodes_hidden around loop [] = refl
 nodes_hidden around loop (x ∷ xs) = ap (λ r. nodes around loop x ++ r) (nodes_hidden around loop xs)
 
 module _ (around : List ℕ) (loop : Option ℕ) where
-  pub nodes-Assign : (site : SiteId) (x : VarId) (e : Expr) → node_list around loop (tree.Assign site x e) ≡ plain_node around loop site (load_list e) (Some x.0) ∷ []
+  pub nodes-Assign : (site : SiteId) (x : VarId) (e : Expr) → node_list around loop (tree.Assign site x e) ≡ plain_node around loop site
+      (load_list e) (Some x.0) ∷ []
   unfolding node_list load_list
   nodes-Assign site x e = refl
 
-  pub nodes-Store : (site : SiteId) (x : VarId) (i e : Expr) → node_list around loop (tree.Store site x i e) ≡ plain_node around loop site (load_list i ++ load_list e) (Some x.0) ∷ []
+  pub nodes-Store : (site : SiteId) (x : VarId) (i e : Expr) → node_list around loop (tree.Store site x i e) ≡ plain_node around loop site
+      (load_list i ++ load_list e) (Some x.0) ∷ []
   unfolding node_list load_list
   nodes-Store site x i e = refl
 
@@ -41,17 +44,21 @@ module _ (around : List ℕ) (loop : Option ℕ) where
   nodes-Call f line args = refl
 
   pub nodes-If : (site : SiteId) (e : Expr) (a b : List Stmt)
-      → node_list around loop (tree.If site e a b) ≡ if_node around loop site (load_list e) ∷ (node_lists (around ++ site.0 ∷ []) loop a ++ node_lists (around ++ site.0 ∷ []) loop b)
+      → node_list around loop (tree.If site e a b) ≡ if_node around loop site (load_list e)
+      ∷ (node_lists (around ++ site.0 ∷ []) loop a ++ node_lists (around ++ site.0 ∷ []) loop b)
   unfolding node_list node_lists load_list opened
   nodes-If site e a b =
-      ap (λ r. if_node around loop site (load_list e) ∷ (r ++ nodes_in (around ++ site.0 ∷ []) loop (Rattle.dp_tree.specs.declared.Stmt.TheBlock.hidden-the_row-Stmt-0 b))) (nodes_hidden (around ++ site.0 ∷ []) loop a)
+      ap (λ r. if_node around loop site (load_list e)
+      ∷ (r ++ nodes_in (around ++ site.0 ∷ []) loop (Rattle.dp_tree.specs.declared.Stmt.TheBlock.hidden-the_row-Stmt-0 b)))
+      (nodes_hidden (around ++ site.0 ∷ []) loop a)
       ∙ ap (λ r. if_node around loop site (load_list e) ∷ (flat_map (nodes (around ++ site.0 ∷ []) loop) a ++ r)) (nodes_hidden (around ++ site.0 ∷ []) loop b)
 
   pub nodes-While : (site : SiteId) (e : Expr) (a : List Stmt)
       → node_list around loop (tree.While site e a)
       ≡ plain_node around (Some (loop_of loop site.0)) site (load_list e) None ∷ node_lists (around ++ site.0 ∷ []) (Some (loop_of loop site.0)) a
   unfolding node_list node_lists load_list opened
-  nodes-While site e a = ap (λ r. plain_node around (Some (loop_of loop site.0)) site (load_list e) None ∷ r) (nodes_hidden (around ++ site.0 ∷ []) (Some (loop_of loop site.0)) a)
+  nodes-While site e a =
+      ap (λ r. plain_node around (Some (loop_of loop site.0)) site (load_list e) None ∷ r) (nodes_hidden (around ++ site.0 ∷ []) (Some (loop_of loop site.0)) a)
 
   pub nodes-Region : (r : ℕ) (site : SiteId) (e : Expr) (a : List Stmt)
       → node_list around loop (tree.Region r site e a) ≡ plain_node around loop site (load_list e) None ∷ node_lists (around ++ site.0 ∷ []) loop a

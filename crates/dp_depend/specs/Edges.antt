@@ -17,8 +17,8 @@ use Rattle.dp_depend.specs.Node.{Node, region_nodes}
 use Rattle.dp_depend.specs.Shown.{region_profile, is_kept, chosen_among}
 
 -- the node's site
-abbrev pub site_of : Node → ℕ
-site_of n = n.site.0
+abbrev pub node_site : Node → ℕ
+node_site n = n.site.0
 
 abbrev pub is_loaded : Option ℕ → List ℕ → Bool
 is_loaded None loads = false
@@ -37,9 +37,9 @@ same_loop (Some a) (Some b) = a == b
 abbrev pub may_come_before : Node → Node → Bool
 may_come_before d u = nat_lt d.site.0 u.site.0 || same_loop d.outer_loop u.outer_loop
 
-abbrev pub is_local_variable : Program → ℕ → Option ℕ → Bool
-is_local_variable p r None = false
-is_local_variable p r (Some x) = is_local r (slice_get p.vars x)
+abbrev pub is_region_local : Program → ℕ → Option ℕ → Bool
+is_region_local p r None = false
+is_region_local p r (Some x) = is_local r (slice_get p.vars x)
 
 -- u stands inside the statement with d's condition, of which no outcome is assumed
 abbrev pub is_control : Bool → Node → Node → Bool
@@ -53,20 +53,20 @@ is_intra p r counts flows first rate d u =
 -- by a store at d in an earlier one
 abbrev pub is_carried : Program → ℕ → List SiteCount → List Flow → ℕ → ℕ → Node → Node → Bool
 is_carried p r counts flows first rate d u =
-    has_flow d u && (not (is_local_variable p r d.stores) && (is_kept counts flows first rate d.site.0 u.site.0 true && not (is_far p r d.site.0 u.site.0)))
+    has_flow d u && (not (is_region_local p r d.stores) && (is_kept counts flows first rate d.site.0 u.site.0 true && not (is_far p r d.site.0 u.site.0)))
 
 abbrev pub edge : Node → Node → EdgeKind → Edge
 edge d u kind = record { from = d.site; to = u.site; kind = kind }
 
-abbrev pub when_so : Bool → Edge → List Edge
-when_so true e = e ∷ []
-when_so false e = []
+abbrev pub edge_when : Bool → Edge → List Edge
+edge_when true e = e ∷ []
+edge_when false e = []
 
 -- the edges from d to u, by kind
 unfoldable pub edges_between : Program → ℕ → List SiteCount → List Flow → ℕ → ℕ → Bool → Node → Node → List Edge
 edges_between p r counts flows first rate assumed d u =
-    when_so (is_control assumed d u) (edge d u Control)
-    ++ (when_so (is_intra p r counts flows first rate d u) (edge d u Intra) ++ when_so (is_carried p r counts flows first rate d u) (edge d u Carried))
+    edge_when (is_control assumed d u) (edge d u Control)
+    ++ (edge_when (is_intra p r counts flows first rate d u) (edge d u Intra) ++ edge_when (is_carried p r counts flows first rate d u) (edge d u Carried))
 
 -- an outcome of d's condition is assumed
 abbrev pub is_assumed : List Assume → Node → Bool
@@ -82,14 +82,15 @@ edges_among p r counts flows first rate chosen all from =
     flat_map (λ d. edges_from p r counts flows first rate (is_assumed chosen d) d all) from
 
 -- the first site of region r
-abbrev pub first_of : Program → ℕ → ℕ
-first_of p r = first_site_of (slice_get p.regions (r - 1))
+abbrev pub first_in_region : Program → ℕ → ℕ
+first_in_region p r = first_site_of (slice_get p.regions (r - 1))
 
 -- the outcomes that may be assumed in region r, ascending by site
 abbrev pub chosen_of : Program → ℕ → Option Profile → ℕ → List Assume
-chosen_of p r profile rate = chosen_among (region_profile profile r).sites (first_of p r) rate (region_nodes p r)
+chosen_of p r profile rate = chosen_among (region_profile profile r).sites (first_in_region p r) rate (region_nodes p r)
 
 -- the edges of region r, ascending by their ends and their kind, since sites are numbered in text order
 abbrev pub edges_of : Program → ℕ → Option Profile → ℕ → List Edge
 edges_of p r profile rate =
-    edges_among p r (region_profile profile r).sites (region_profile profile r).flows (first_of p r) rate (chosen_of p r profile rate) (region_nodes p r) (region_nodes p r)
+    edges_among p r (region_profile profile r).sites (region_profile profile r).flows (first_in_region p r) rate (chosen_of p r profile rate)
+    (region_nodes p r) (region_nodes p r)

@@ -42,7 +42,9 @@ fn shown_of<'a>(found: Option<&'a RegionProfile>, first: u32, rate: u32) -> Show
 
 fn graph_of(alloc: Global, p: &Program, region: u32, shown: Shown<'_>) -> Result<Graph, NoMemory>
     ensures chosen { IfOk result (λ g. g.chosen ≡ counted.chosen_among shown.entry.counts.now shown.entry.first shown.entry.rate (region_nodes p.now region)) }
-    ensures edges { IfOk result (λ g. g.edges ≡ edges_among p.now region shown.entry.counts.now shown.entry.flows.now shown.entry.first shown.entry.rate (counted.chosen_among shown.entry.counts.now shown.entry.first shown.entry.rate (region_nodes p.now region)) (region_nodes p.now region) (region_nodes p.now region)) }
+    ensures edges { IfOk result (λ g. g.edges ≡ edges_among p.now region shown.entry.counts.now shown.entry.flows.now shown.entry.first shown.entry.rate
+        (counted.chosen_among shown.entry.counts.now shown.entry.first shown.entry.rate (region_nodes p.now region)) (region_nodes p.now region)
+        (region_nodes p.now region)) }
 {
     let nodes = nodes_of(alloc, p, region)?;
     let frequent = shown.frequent(alloc)?;

@@ -13,7 +13,7 @@ use std::alloc::Global;
 
 /// The outcome of which the other is rare.
 fn outcome(zero: bool, one: bool, more_ones: bool) -> Option<bool>
-    ensures { result ≡ spec.outcome zero one more_ones }
+    ensures { result ≡ spec.rare_outcome zero one more_ones }
 {
     if zero && one {
         return Some(more_ones);

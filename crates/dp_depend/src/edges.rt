@@ -63,7 +63,7 @@ fn is_local(p: &Program, region: u32, variable: u32) -> bool
 }
 
 fn is_local_variable(p: &Program, region: u32, variable: Option<u32>) -> bool
-    ensures { result ≡ spec.is_local_variable p.now region variable }
+    ensures { result ≡ spec.is_region_local p.now region variable }
 {
     match variable {
         Some(variable) => is_local(p, region, variable),
@@ -85,7 +85,7 @@ fn put_edge(
     u: &Node,
     kind: EdgeKind,
 ) -> Result<(), NoMemory>
-    ensures { OnOk result (out.new ≡ out.old ++ spec.when_so holds (spec.edge d.now u.now kind)) }
+    ensures { OnOk result (out.new ≡ out.old ++ spec.edge_when holds (spec.edge d.now u.now kind)) }
 {
     if !holds {
         return Ok(());
@@ -123,7 +123,8 @@ impl Basis<'_> {
         requires apart { TellsApart self.p.now self.region self.apart.now }
         requires d { has d.now.site.0 (region_sites self.p.now self.region) ≡ true }
         requires u { has u.now.site.0 (region_sites self.p.now self.region) ≡ true }
-        ensures { result ≡ spec.is_intra self.entry.p.now self.entry.region self.entry.shown.counts.now self.entry.shown.flows.now self.entry.shown.first self.entry.shown.rate d.now u.now }
+        ensures { result ≡ spec.is_intra self.entry.p.now self.entry.region self.entry.shown.counts.now self.entry.shown.flows.now self.entry.shown.first
+            self.entry.shown.rate d.now u.now }
     {
         has_flow(d, u)
             && (may_come_before(d, u)
@@ -136,7 +137,8 @@ impl Basis<'_> {
         requires apart { TellsApart self.p.now self.region self.apart.now }
         requires d { has d.now.site.0 (region_sites self.p.now self.region) ≡ true }
         requires u { has u.now.site.0 (region_sites self.p.now self.region) ≡ true }
-        ensures { result ≡ spec.is_carried self.entry.p.now self.entry.region self.entry.shown.counts.now self.entry.shown.flows.now self.entry.shown.first self.entry.shown.rate d.now u.now }
+        ensures { result ≡ spec.is_carried self.entry.p.now self.entry.region self.entry.shown.counts.now self.entry.shown.flows.now self.entry.shown.first
+            self.entry.shown.rate d.now u.now }
     {
         has_flow(d, u)
             && (!is_local_variable(self.p, self.region, d.stores)
@@ -155,7 +157,8 @@ impl Basis<'_> {
         requires apart { TellsApart self.p.now self.region self.apart.now }
         requires d { has d.now.site.0 (region_sites self.p.now self.region) ≡ true }
         requires u { has u.now.site.0 (region_sites self.p.now self.region) ≡ true }
-        ensures { OnOk result (out.new ≡ out.old ++ spec.edges_between self.entry.p.now self.entry.region self.entry.shown.counts.now self.entry.shown.flows.now self.entry.shown.first self.entry.shown.rate assumed d.now u.now) }
+        ensures { OnOk result (out.new ≡ out.old ++ spec.edges_between self.entry.p.now self.entry.region self.entry.shown.counts.now self.entry.shown.flows.now
+            self.entry.shown.first self.entry.shown.rate assumed d.now u.now) }
     {
         put_edge(out, is_control(assumed, d, u), d, u, EdgeKind::Control)?;
         put_edge(out, self.is_intra(d, u), d, u, EdgeKind::Intra)?;
@@ -174,8 +177,9 @@ impl Basis<'_> {
         requires frequent { AreFrequent self.shown.counts.now self.shown.flows.now self.shown.first self.shown.rate self.frequent.now }
         requires apart { TellsApart self.p.now self.region self.apart.now }
         requires d { has d.now.site.0 (region_sites self.p.now self.region) ≡ true }
-        requires all { map spec.site_of all.now ≡ region_sites self.p.now self.region }
-        ensures { OnOk result (out.new ≡ out.old ++ spec.edges_from self.entry.p.now self.entry.region self.entry.shown.counts.now self.entry.shown.flows.now self.entry.shown.first self.entry.shown.rate assumed d.now all.now) }
+        requires all { map spec.node_site all.now ≡ region_sites self.p.now self.region }
+        ensures { OnOk result (out.new ≡ out.old ++ spec.edges_from self.entry.p.now self.entry.region self.entry.shown.counts.now self.entry.shown.flows.now
+            self.entry.shown.first self.entry.shown.rate assumed d.now all.now) }
     {
         for u in all {
             self.put_between(out, assumed, d, u)?;
@@ -192,8 +196,9 @@ impl Basis<'_> {
     ) -> Result<Row<Edge>, NoMemory>
         requires frequent { AreFrequent self.shown.counts.now self.shown.flows.now self.shown.first self.shown.rate self.frequent.now }
         requires apart { TellsApart self.p.now self.region self.apart.now }
-        requires all { map spec.site_of all.now ≡ region_sites self.p.now self.region }
-        ensures { IfOk result (λ edges. edges ≡ spec.edges_among self.entry.p.now self.entry.region self.entry.shown.counts.now self.entry.shown.flows.now self.entry.shown.first self.entry.shown.rate chosen.now all.now all.now) }
+        requires all { map spec.node_site all.now ≡ region_sites self.p.now self.region }
+        ensures { IfOk result (λ edges. edges ≡ spec.edges_among self.entry.p.now self.entry.region self.entry.shown.counts.now self.entry.shown.flows.now
+            self.entry.shown.first self.entry.shown.rate chosen.now all.now all.now) }
     {
         let mut edges = Row::new(alloc);
         for d in all {

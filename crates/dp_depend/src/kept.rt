@@ -32,7 +32,7 @@ pub fn region_profile(profile: Option<&Profile>, region: u32) -> Option<&RegionP
 impl Shown<'_> {
     /// The counts of a site.
     pub fn count(self, site: SiteId) -> SiteCount
-        ensures { result ≡ spec.count_of self.entry.counts.now self.entry.first site.0 }
+        ensures { result ≡ spec.counts_at self.entry.counts.now self.entry.first site.0 }
     {
         if self.first <= site.0 {
             count_or_none(self.counts.get((site.0 - self.first) as usize))

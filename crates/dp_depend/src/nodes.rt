@@ -125,7 +125,8 @@ impl Inside<'_> {
         index: &Expr,
         value: &Expr,
     ) -> Result<(), NoMemory>
-        ensures { OnOk result (out.new ≡ out.old ++ spec.plain_node self.entry.around.now self.entry.outer_loop site (lists.load_list index.now ++ lists.load_list value.now) (Some var.0) ∷ []) }
+        ensures { OnOk result (out.new ≡ out.old ++ spec.plain_node self.entry.around.now self.entry.outer_loop site (lists.load_list index.now
+            ++ lists.load_list value.now) (Some var.0) ∷ []) }
     {
         let loads = loads_of_both(self.alloc, index, value)?;
         self.put_node(out, site, loads, Some(var.0))
@@ -181,7 +182,8 @@ fn put_loop(
     body: &[Stmt],
     cond: &Expr,
 ) -> Result<(), NoMemory>
-    ensures { OnOk result (out.new ≡ out.old ++ spec.plain_node inside.entry.around.now inside.entry.outer_loop site (lists.load_list cond.now) None ∷ lists.node_lists (inside.entry.around.now ++ site.0 ∷ []) inside.entry.outer_loop body.now) }
+    ensures { OnOk result (out.new ≡ out.old ++ spec.plain_node inside.entry.around.now inside.entry.outer_loop site (lists.load_list cond.now) None
+        ∷ lists.node_lists (inside.entry.around.now ++ site.0 ∷ []) inside.entry.outer_loop body.now) }
 {
     inside.put_value(out, site, cond, None)?;
     put_part(inside, out, site, body)?;

@@ -1,5 +1,6 @@
 -- The line that an audit names is the first that isn't the same in both texts.
-use Rattle.std.proofs.Common.{◌≡◌, ◌≢◌, refl, sym, ◌∙◌, ap, arith, zero, ℕ, ◌+◌, ◌-◌, ◌<◌, suc, Bool, true, false, if◌then◌else◌, List, [], ◌∷◌, subst, ℤ, Some, None, Result, Ok, IfOk, slice_get}
+use Rattle.std.proofs.Common.{◌≡◌, ◌≢◌, refl, sym, ◌∙◌, ap, arith, zero, ℕ, ◌+◌, ◌-◌, ◌<◌, suc, Bool, true, false, if◌then◌else◌, List, [], ◌∷◌, subst, ℤ, Some}
+use Rattle.std.proofs.Common.{None, Result, Ok, IfOk, slice_get}
 use Rattle.std.specs.Str.{bytes_eq}
 use Rattle.std.proofs.lemmas.Slice.Eq.{bytes_eq-Decides}
 use Rattle.dp_text.specs.Lines.{lines_of}
@@ -18,7 +19,8 @@ same_lines n [] = refl
 same_lines n (line ∷ rest) = rw ((bytes_eq-Decides line line).1 refl) (same_lines (n + 1) rest)
 
 -- the lines in front are the same, and these differ
-differ_at : (n k : ℕ) (lines others : List (List ℕ)) → ((j : ℕ) → j < k → slice_get lines j ≡ slice_get others j) → slice_get lines k ≢ slice_get others k → differ_from n lines others ≡ Some (n + k)
+differ_at : (n k : ℕ) (lines others : List (List ℕ)) → ((j : ℕ) → j < k → slice_get lines j ≡ slice_get others j) → slice_get lines k ≢ slice_get others k →
+    differ_from n lines others ≡ Some (n + k)
 differ_at n k [] [] same differs = absurd (differs refl)
 differ_at n zero [] (other ∷ more) same differs = ap Some (omega arith)
 differ_at n (suc k) [] (other ∷ more) same differs = let e = same 0 (omega arith) in absurd (cc e)
@@ -44,9 +46,11 @@ differs_as text log line h =
     ap Some whole ∙ sym (differ_at 1 (line - 1) (lines_of text) (lines_of log) (λ j less. h.same j (omega (arith, less, counted))) h.differs)
 
 -- what was answered of a list of plans, an input and a text that are lent
-pub answered_at : (p : Program) (plans others : List Plan) (input numbers : List ℤ) (fuel : ℕ) (text other : List ℕ) (r : Result AuditEnd Wanting) (end : AuditEnd) → others ≡ plans → numbers ≡ input → other ≡ text → r ≡ Ok end →
+pub answered_at : (p : Program) (plans others : List Plan) (input numbers : List ℤ) (fuel : ℕ) (text other : List ℕ) (r : Result AuditEnd Wanting)
+    (end : AuditEnd) → others ≡ plans → numbers ≡ input → other ≡ text → r ≡ Ok end →
     IfOk r (Answers other (log_bytes p others (source_run p numbers fuel))) → Answers text (log_bytes p plans (source_run p input fuel)) end
 answered_at p plans others input numbers fuel text other r end e f t is h =
     let here : Answers other (log_bytes p others (source_run p numbers fuel)) end = rw is at h in
     subst (λ (x : List ℕ). Answers x (log_bytes p plans (source_run p input fuel)) end) t
-    (subst (λ (ps : List Plan). Answers other (log_bytes p ps (source_run p input fuel)) end) e (subst (λ (zs : List ℤ). Answers other (log_bytes p others (source_run p zs fuel)) end) f here))
+    (subst (λ (ps : List Plan). Answers other (log_bytes p ps (source_run p input fuel)) end) e
+    (subst (λ (zs : List ℤ). Answers other (log_bytes p others (source_run p zs fuel)) end) f here))

@@ -5,18 +5,19 @@ use Rattle.dp_edge.specs.declared.writing.WriteFail.{WriteFail}
 use Rattle.dp_edge.specs.declared.writing.WriteFail.TheVariants.{Write, NoMemory}
 use Rattle.dp_refusal.specs.declared.role.Role.{Role}
 use Rattle.dp_refusal.specs.declared.refusal.Refusal.{Refusal}
-use Rattle.dp_refusal.specs.declared.refusal.Refusal.TheVariants.{Words, Byte, Syntax, Name, InputWord, ListLine, BatchWord, PlanLine, PlanRule, ProfileLine, CheckpointLine, Limit}
+use Rattle.dp_refusal.specs.declared.refusal.Refusal.TheVariants.{Words, Byte, Syntax, Name, InputWord, ListLine, BatchWord, PlanLine, PlanRule, ProfileLine}
+use Rattle.dp_refusal.specs.declared.refusal.Refusal.TheVariants.{CheckpointLine, Limit}
 use Rattle.dp_load.specs.declared.texts.Texts.TheVariants as texts
 use Rattle.dp_refusal.specs.Refusal.{refusal_line, refusal_status, failed_read_line}
 use Rattle.dp_words.specs.Words.{Asked, Asks, ToRun}
-use Rattle.dp_words.specs.Run.{Run}
+use Rattle.dp_words.specs.Run.{RunAsked}
 use Rattle.dp_plan.specs.declared.Plan.{Plan}
 use Rattle.dp_run.specs.RunText.{source_run, committed_in_all}
 use Rattle.dp_drive.specs.steps.Status.{status_after}
 use Rattle.dp_load.specs.Roles.{Contents}
 use Rattle.dp_drive.specs.Answer.{run_fuel}
 use Rattle.dp_drive.specs.Headline.{IsCounted, IsEnd}
-use Rattle.dp_load.specs.Texts.{Names, LoadsTexts}
+use Rattle.dp_load.specs.Texts.{FailedNames, LoadsTexts}
 use Rattle.dp_drive.specs.steps.Carried.{Finishes}
 use Rattle.dp_drive.proofs.AnswerLemmas.{count_run}
 
@@ -41,34 +42,46 @@ refusal_is_no_end (CheckpointLine line) h = no_end_by 4 (omega arith) (λ e. ome
 refusal_is_no_end (Limit quantity count) h = no_end_by 9 (omega arith) (λ e. omega (arith, e)) h
 
 -- a result whose status is this one
-status_is : (s : ℕ) (bytes : List ℕ) (told tells : Option (List ℕ)) (result : Result ℕ WriteFail) (P : ℕ → Type 0) → P s → Finishes s bytes told tells result → IfOk result P
+status_is : (s : ℕ) (bytes : List ℕ) (told tells : Option (List ℕ)) (result : Result ℕ WriteFail) (P : ℕ → Type 0) → P s →
+    Finishes s bytes told tells result → IfOk result P
 status_is s bytes told tells (Ok answered) P h finishes = rw finishes.0 h
 status_is s bytes told tells (Err fail) P h finishes = tt
 
 -- where no run ended, nothing is said of the tally
 module _ (words : List (List ℕ)) (contents : Contents) (before now : ℕ) (told tells : Option (List ℕ)) (result : Result ℕ WriteFail) where
-  pub refused_counts : (refusal : Refusal) → Finishes (refusal_status refusal) (refusal_line refusal) told tells result → IfOk result (IsCounted words contents before now)
-  refused_counts refusal h = status_is (refusal_status refusal) (refusal_line refusal) told tells result (IsCounted words contents before now) (λ asked fuel asks some end. absurd (refusal_is_no_end refusal end)) h
+  pub refused_counts : (refusal : Refusal) → Finishes (refusal_status refusal) (refusal_line refusal) told tells result →
+      IfOk result (IsCounted words contents before now)
+  refused_counts refusal h = status_is (refusal_status refusal) (refusal_line refusal) told tells result (IsCounted words contents before now)
+      (λ asked fuel asks some end. absurd (refusal_is_no_end refusal end)) h
 
   pub failed_counts : (which : Role) → Finishes 5 (failed_read_line which) told tells result → IfOk result (IsCounted words contents before now)
-  failed_counts which h = status_is 5 (failed_read_line which) told tells result (IsCounted words contents before now) (λ asked fuel asks some end. absurd (no_end_by 5 (omega arith) (λ e. omega (arith, e)) end)) h
+  failed_counts which h = status_is 5 (failed_read_line which) told tells result (IsCounted words contents before now)
+      (λ asked fuel asks some end. absurd (no_end_by 5 (omega arith) (λ e. omega (arith, e)) end)) h
 
 all_results : (result : Result ℕ WriteFail) (P : ℕ → Type 0) → ((s : ℕ) → P s) → IfOk result P
 all_results (Ok s) P h = h s
 all_results (Err fail) P h = tt
 
 -- nor where no run was asked for
-pub no_run_counts : (words : List (List ℕ)) (contents : Contents) (before now : ℕ) (result : Result ℕ WriteFail) → ((asked : Asked) (fuel : ℕ) → Asks words asked → run_fuel asked ≡ Some fuel → ⊥) → IfOk result (IsCounted words contents before now)
-no_run_counts words contents before now result none = all_results result (IsCounted words contents before now) (λ s asked fuel asks some end. absurd (none asked fuel asks some))
+pub no_run_counts : (words : List (List ℕ)) (contents : Contents) (before now : ℕ) (result : Result ℕ WriteFail) →
+    ((asked : Asked) (fuel : ℕ) → Asks words asked → run_fuel asked ≡ Some fuel → ⊥) → IfOk result (IsCounted words contents before now)
+no_run_counts words contents before now result none =
+    all_results result (IsCounted words contents before now) (λ s asked fuel asks some end. absurd (none asked fuel asks some))
 
 -- the status after a result: those of failures are no ends
-pub counted_after : (words : List (List ℕ)) (contents : Contents) (before now status : ℕ) (result : Result ℕ WriteFail) → status ≡ status_after result → IfOk result (IsCounted words contents before now) → IsCounted words contents before now status
+pub counted_after : (words : List (List ℕ)) (contents : Contents) (before now status : ℕ) (result : Result ℕ WriteFail) → status ≡ status_after result →
+    IfOk result (IsCounted words contents before now) → IsCounted words contents before now status
 counted_after words contents before now status (Ok s) e h = rw e h
-counted_after words contents before now status (Err Write) e h = λ asked fuel asks some end. absurd (no_end_by 6 (omega arith) (λ e. omega (arith, e)) (rw e at end))
-counted_after words contents before now status (Err NoMemory) e h = λ asked fuel asks some end. absurd (no_end_by 7 (omega arith) (λ e. omega (arith, e)) (rw e at end))
+counted_after words contents before now status (Err Write) e h =
+    λ asked fuel asks some end. absurd (no_end_by 6 (omega arith) (λ e. omega (arith, e)) (rw e at end))
+counted_after words contents before now status (Err NoMemory) e h =
+    λ asked fuel asks some end. absurd (no_end_by 7 (omega arith) (λ e. omega (arith, e)) (rw e at end))
 
 -- a run that was loaded: where it ended, the tally grew by what was committed of it
-pub run_counts : (words : List (List ℕ)) (contents : Contents) (faults after : ℕ) (failed fails : Names) (run : Run) (q : Program) (numbers : List ℤ) (plans : List Plan) (before now : ℕ) (result : Result ℕ WriteFail) →
-    Asks words (ToRun run) → LoadsTexts contents run faults after failed fails (texts.Run q numbers plans) → OnOk result (now ≡ before + committed_in_all q plans (source_run q numbers run.fuel)) → IfOk result (IsCounted words contents before now)
-run_counts words contents faults after failed fails run q numbers plans before now (Ok status) asks texts h = count_run words contents faults after failed fails None None run q numbers plans before now status asks texts h
+pub run_counts : (words : List (List ℕ)) (contents : Contents) (faults after : ℕ) (failed fails : FailedNames) (run : RunAsked) (q : Program) (numbers : List ℤ)
+    (plans : List Plan) (before now : ℕ) (result : Result ℕ WriteFail) →
+    Asks words (ToRun run) → LoadsTexts contents run faults after failed fails (texts.Run q numbers plans) →
+    OnOk result (now ≡ before + committed_in_all q plans (source_run q numbers run.fuel)) → IfOk result (IsCounted words contents before now)
+run_counts words contents faults after failed fails run q numbers plans before now (Ok status) asks texts h =
+    count_run words contents faults after failed fails None None run q numbers plans before now status asks texts h
 run_counts words contents faults after failed fails run q numbers plans before now (Err fail) asks texts h = tt

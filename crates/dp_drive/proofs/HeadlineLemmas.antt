@@ -18,7 +18,8 @@ module _ (words : List (List ℕ)) (before after : Outside) where
   same_and_less : {A : Type 0} → after.failed_reads ≡ before.failed_reads → before.failed_reads < after.failed_reads → A
   same_and_less e less = absurd (omega (arith, e, less))
 
-  answers : (r : Result ℕ WriteFail) → Carries r → Counts r → after.failed_reads ≡ before.failed_reads → after.failed_writes ≡ before.failed_writes → Answered words before after (status_after r)
+  answers : (r : Result ℕ WriteFail) → Carries r → Counts r → after.failed_reads ≡ before.failed_reads → after.failed_writes ≡ before.failed_writes →
+      Answered words before after (status_after r)
   answers (Ok s) (carried.OfAnswer t bytes answer f g h) sink same others = rw h.0 (Whole t bytes answer h.1)
   answers (Ok s) (carried.OfFailedRead which name read less g h) sink same others = same_and_less same less
   answers (Ok s) (Starved clash f g h) sink same others = absurd (cc clash)
@@ -27,14 +28,18 @@ module _ (words : List (List ℕ)) (before after : Outside) where
   answers (Err NoMemory) (carried.OfFailedRead which name read less g h) sink same others = same_and_less same less
   answers (Err NoMemory) (Starved clash f g h) sink same others = Nothing h
 
-  fails_to_read : (r : Result ℕ WriteFail) → Carries r → Counts r → before.failed_reads < after.failed_reads → after.failed_writes ≡ before.failed_writes → ReadFailed words before after (status_after r)
+  fails_to_read : (r : Result ℕ WriteFail) → Carries r → Counts r → before.failed_reads < after.failed_reads → after.failed_writes ≡ before.failed_writes →
+      ReadFailed words before after (status_after r)
   fails_to_read r (carried.OfAnswer t bytes answer f g h) sink less others = same_and_less f less
-  fails_to_read (Ok s) (carried.OfFailedRead which name read more g h) sink less others = record { role = which; name = name; is_read = read; names = g; written = inl h }
+  fails_to_read (Ok s) (carried.OfFailedRead which name read more g h) sink less others =
+      record { role = which; name = name; is_read = read; names = g; written = inl h }
   fails_to_read (Err Write) (carried.OfFailedRead which name read more g h) sink less others = absurd (omega (arith, sink, others))
-  fails_to_read (Err NoMemory) (carried.OfFailedRead which name read more g h) sink less others = record { role = which; name = name; is_read = read; names = g; written = inr (refl, h) }
+  fails_to_read (Err NoMemory) (carried.OfFailedRead which name read more g h) sink less others =
+      record { role = which; name = name; is_read = read; names = g; written = inr (refl, h) }
   fails_to_read r (Starved is f g h) sink less others = same_and_less f less
 
-  fails_to_write : (r : Result ℕ WriteFail) → Carries r → Counts r → before.failed_writes < after.failed_writes → (status_after r ≡ 6) × WriteFailed words before after
+  fails_to_write : (r : Result ℕ WriteFail) → Carries r → Counts r → before.failed_writes < after.failed_writes → (status_after r ≡ 6)
+      × WriteFailed words before after
   fails_to_write (Ok s) carry sink rose = absurd (omega (arith, sink, rose))
   fails_to_write (Err NoMemory) carry sink rose = absurd (omega (arith, sink, rose))
   fails_to_write (Err Write) (carried.OfAnswer t bytes answer f g h) sink rose = (refl, OfAnswer t bytes answer (record { reads = f; names = g }) h)
@@ -56,7 +61,8 @@ module _ (words : List (List ℕ)) (before after : Outside) where
   writes_kept (Err Write) h = omega (arith, h)
   writes_kept (Err NoMemory) h = omega (arith, h)
 
-  pub drives : (r : Result ℕ WriteFail) (status : ℕ) → status ≡ status_after r → Carries r → Counts r → after.contents ≡ before.contents → Drives words before after status
+  pub drives : (r : Result ℕ WriteFail) (status : ℕ) → status ≡ status_after r → Carries r → Counts r → after.contents ≡ before.contents →
+      Drives words before after status
   drives r status e carry sink kept = rw e (record {
     answered = answers r carry sink;
     read_failed = fails_to_read r carry sink;

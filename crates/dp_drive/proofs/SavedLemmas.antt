@@ -13,11 +13,12 @@ use Rattle.dp_load.proofs.accepted.Accepted.{inlined_read}
 use Rattle.dp_load.proofs.accepted.AtHome.{input_fits, programs_at_home}
 use Rattle.dp_load.proofs.accepted.Given.{few_words}
 use Rattle.dp_load.proofs.accepted.ReadStarts.{run_starts_clear}
-use Rattle.dp_drive.specs.Pieces.{saved_from}
+use Rattle.dp_drive.specs.Pieces.{saved_at_place}
 use Rattle.dp_drive.specs.SavedText.{SavedTextsAreRead}
 
 -- the text that the program is read from
-program_text : {contents : Contents} {name : Option (List ℕ)} {o : Result Program Refusal} (p : Program) → ProgramOf contents name o → o ≡ Ok p → (text : List ℕ) × Reads text (Ok p)
+program_text : {contents : Contents} {name : Option (List ℕ)} {o : Result Program Refusal} (p : Program) → ProgramOf contents name o → o ≡ Ok p →
+    (text : List ℕ) × Reads text (Ok p)
 program_text p (MadeProgram read r) e = (made_text, subst (Reads made_text) e r)
 program_text p (NamedProgram name text read held r) e = (text, subst (Reads text) e r)
 
@@ -31,7 +32,8 @@ saved_read contents program input p numbers plans fuel k place h l given most re
     let home = programs_at_home t.0 (expand p) (run_for t.0 p t.1) in
     record {
       before = text_before (source_run (expand p) numbers fuel) k;
-      is = ap (saved_from p plans numbers fuel place) reached;
-      read = checkpoint_is_read (expand p) plans (record { inlined = inlined_read t.0 p t.1; plans_are = given }) home.0 (run_starts_clear t.0 (expand p) (run_for t.0 p t.1)) home.1
+      is = ap (saved_at_place p plans numbers fuel place) reached;
+      read = checkpoint_is_read (expand p) plans (record { inlined = inlined_read t.0 p t.1; plans_are = given }) home.0
+          (run_starts_clear t.0 (expand p) (run_for t.0 p t.1)) home.1
           numbers fuel place.region place.after k (few_words numbers l refl) (input_fits contents input numbers l) most reached;
     }

@@ -18,9 +18,9 @@ use Rattle.dp_resume.specs.Saved.{saved_bytes, saved_end}
 use Rattle.dp_resume.specs.Saved as saved
 use Rattle.dp_resume.specs.Resumed.{resumed_bytes, resumed_run}
 use Rattle.dp_words.specs.declared.task.Place.{Place}
-use Rattle.dp_refusal.specs.Refusal.{status_of}
+use Rattle.dp_refusal.specs.Refusal.{exit_status}
 use Rattle.dp_drive.specs.Audit.{audit_line, audit_status, first_difference, log_of}
-use Rattle.dp_drive.specs.Pieces.{resumed_text, saved_from, saved_status, saved_text, status_unless}
+use Rattle.dp_drive.specs.Pieces.{resumed_text, saved_at_place, saved_status, saved_text, status_unless}
 use Rattle.dp_drive.specs.Pieces as pieces
 use Rattle.dp_drive.specs.RunText.{run_text}
 use Rattle.dp_drive.specs.steps.Carried.{Finishes}
@@ -28,33 +28,42 @@ use Rattle.dp_drive.specs.steps.Saved.{status_at}
 use Rattle.dp_drive.proofs.AnswerLemmas.{finishes_as}
 use Rattle.dp_drive.proofs.accepted.SameText.{same_end, same_text}
 
-module _ (p q : Program) (is : q ≡ expand p) (checked : IsChecked p) (inlined : IsInlined (expand p)) (told tells : Option (List ℕ)) (result : Result ℕ WriteFail) where
+module _ (p q : Program) (is : q ≡ expand p) (checked : IsChecked p) (inlined : IsInlined (expand p)) (told tells : Option (List ℕ))
+    (result : Result ℕ WriteFail) where
   -- the run of the expanded program ends as the source's
   ends_as : (plans : List Plan) (numbers : List ℤ) (fuel : ℕ) → (source_run q numbers fuel).end ≡ (outcome p numbers fuel).end
-  ends_as plans numbers fuel = ap (λ (x : Program). (source_run x numbers fuel).end) is ∙ sym (same_end p inlined (same_meaning p checked) plans numbers fuel false)
+  ends_as plans numbers fuel =
+      ap (λ (x : Program). (source_run x numbers fuel).end) is ∙ sym (same_end p inlined (same_meaning p checked) plans numbers fuel false)
 
-  text_as : (plans : List Plan) (numbers : List ℤ) (fuel : ℕ) → trace_text (expand p) plans (source_run (expand p) numbers fuel) false ≡ run_text p plans numbers fuel false
+  text_as : (plans : List Plan) (numbers : List ℤ) (fuel : ℕ) → trace_text (expand p) plans (source_run (expand p) numbers fuel) false ≡ run_text p
+      plans numbers fuel false
   text_as plans numbers fuel = sym (same_text p inlined (same_meaning p checked) plans numbers fuel false)
 
-  pub finishes_log : (plans : List Plan) (numbers : List ℤ) (fuel : ℕ) → Finishes (status_of (source_run q numbers fuel).end) (log_bytes q plans (source_run q numbers fuel)) told tells result →
-      Finishes (status_of (outcome p numbers fuel).end) (log_of p plans numbers fuel) told tells result
+  pub finishes_log : (plans : List Plan) (numbers : List ℤ) (fuel : ℕ) → Finishes (exit_status (source_run q numbers fuel).end)
+      (log_bytes q plans (source_run q numbers fuel)) told tells result →
+      Finishes (exit_status (outcome p numbers fuel).end) (log_of p plans numbers fuel) told tells result
   finishes_log plans numbers fuel h =
       finishes_as _ _ (log_bytes q plans (source_run q numbers fuel)) (log_of p plans numbers fuel) told tells result
-      (ap status_of (ends_as plans numbers fuel)) (ap (λ (x : Program). log_bytes x plans (source_run x numbers fuel)) is) h
+      (ap exit_status (ends_as plans numbers fuel)) (ap (λ (x : Program). log_bytes x plans (source_run x numbers fuel)) is) h
 
   pub finishes_audit : (plans : List Plan) (numbers : List ℤ) (fuel : ℕ) (text : List ℕ) →
-      Finishes (audit_status (first_difference text (log_bytes q plans (source_run q numbers fuel)))) (audit_line (first_difference text (log_bytes q plans (source_run q numbers fuel)))) told tells result →
-      Finishes (audit_status (first_difference text (log_of p plans numbers fuel))) (audit_line (first_difference text (log_of p plans numbers fuel))) told tells result
+      Finishes (audit_status (first_difference text (log_bytes q plans (source_run q numbers fuel))))
+      (audit_line (first_difference text (log_bytes q plans (source_run q numbers fuel)))) told tells result →
+      Finishes (audit_status (first_difference text (log_of p plans numbers fuel)))
+      (audit_line (first_difference text (log_of p plans numbers fuel))) told tells result
   finishes_audit plans numbers fuel text h =
-      let same : log_bytes q plans (source_run q numbers fuel) ≡ log_of p plans numbers fuel = ap (λ (x : Program). log_bytes x plans (source_run x numbers fuel)) is in
+      let same : log_bytes q plans (source_run q numbers fuel) ≡ log_of p plans numbers fuel = ap
+      (λ (x : Program). log_bytes x plans (source_run x numbers fuel)) is in
       subst (λ (log : List ℕ). Finishes (audit_status (first_difference text log)) (audit_line (first_difference text log)) told tells result) same h
 
-  saved_as : (plans : List Plan) (numbers : List ℤ) (fuel : ℕ) (place : Place) (k : Option ℕ) → saved.saved_from (expand p) plans numbers fuel place.region place.after k ≡ saved_from p plans numbers fuel place k
+  saved_as : (plans : List Plan) (numbers : List ℤ) (fuel : ℕ) (place : Place) (k : Option ℕ) →
+      saved.saved_from (expand p) plans numbers fuel place.region place.after k ≡ saved_at_place p plans numbers fuel place k
   saved_as plans numbers fuel place None = text_as plans numbers fuel
   saved_as plans numbers fuel place (Some k) = refl
 
-  status_as : (plans : List Plan) (numbers : List ℤ) (fuel : ℕ) (k : Option ℕ) → status_at (saved.end_from (source_run (expand p) numbers fuel) k) ≡ status_unless (status_of (outcome p numbers fuel).end) k
-  status_as plans numbers fuel None = ap status_of (sym (same_end p inlined (same_meaning p checked) plans numbers fuel false))
+  status_as : (plans : List Plan) (numbers : List ℤ) (fuel : ℕ) (k : Option ℕ) → status_at (saved.end_from (source_run (expand p) numbers fuel) k)
+      ≡ status_unless (exit_status (outcome p numbers fuel).end) k
+  status_as plans numbers fuel None = ap exit_status (sym (same_end p inlined (same_meaning p checked) plans numbers fuel false))
   status_as plans numbers fuel (Some k) = refl
 
   pub finishes_save : (plans : List Plan) (numbers : List ℤ) (fuel : ℕ) (place : Place) →
@@ -66,19 +75,22 @@ module _ (p q : Program) (is : q ≡ expand p) (checked : IsChecked p) (inlined 
       (ap (λ (x : Program). status_at (saved_end x numbers fuel place.region place.after)) is ∙ status_as plans numbers fuel k)
       (ap (λ (x : Program). saved_bytes x plans numbers fuel place.region place.after) is ∙ saved_as plans numbers fuel place k) h
 
-  pub finishes_resume : (plans : List Plan) (numbers : List ℤ) (c : Checkpoint) → Finishes (status_of (resumed_run q numbers c).end) (resumed_bytes q plans numbers c) told tells result →
-      Finishes (status_of (pieces.resumed_end p numbers c)) (resumed_text p plans numbers c) told tells result
+  pub finishes_resume : (plans : List Plan) (numbers : List ℤ) (c : Checkpoint) → Finishes (exit_status (resumed_run q numbers c).end)
+      (resumed_bytes q plans numbers c) told tells result →
+      Finishes (exit_status (pieces.resumed_end p numbers c)) (resumed_text p plans numbers c) told tells result
   finishes_resume plans numbers c h =
       finishes_as _ _ (resumed_bytes q plans numbers c) (resumed_text p plans numbers c) told tells result
-      (ap (λ (x : Program). status_of (resumed_run x numbers c).end) is) (ap (λ (x : Program). resumed_bytes x plans numbers c) is) h
+      (ap (λ (x : Program). exit_status (resumed_run x numbers c).end) is) (ap (λ (x : Program). resumed_bytes x plans numbers c) is) h
 
-  batches_as : (plans : List Plan) (fuel number : ℕ) (inputs : List (List ℤ)) → texts_from (batch.run_text (expand p) plans fuel) number inputs ≡ texts_from (λ input. run_text p plans input fuel false) number inputs
+  batches_as : (plans : List Plan) (fuel number : ℕ) (inputs : List (List ℤ)) → texts_from (batch.batched_run_text (expand p) plans fuel) number inputs ≡ texts_from
+      (λ input. run_text p plans input fuel false) number inputs
   batches_as plans fuel number [] = refl
   batches_as plans fuel number (input ∷ rest) =
-      ap (λ (text : List ℕ). (input_line number ++ text) ++ texts_from (batch.run_text (expand p) plans fuel) (number + 1) rest) (text_as plans input fuel)
+      ap (λ (text : List ℕ). (input_line number ++ text) ++ texts_from (batch.batched_run_text (expand p) plans fuel) (number + 1) rest) (text_as plans input fuel)
       ∙ ap (λ (more : List ℕ). (input_line number ++ run_text p plans input fuel false) ++ more) (batches_as plans fuel (number + 1) rest)
 
-  pub finishes_batch : (plans : List Plan) (fuel : ℕ) (inputs : List (List ℤ)) → Finishes 0 (batch_bytes q plans fuel inputs) told tells result → Finishes 0 (texts_from (λ input. run_text p plans input fuel false) 1 inputs) told tells result
+  pub finishes_batch : (plans : List Plan) (fuel : ℕ) (inputs : List (List ℤ)) → Finishes 0 (batch_bytes q plans fuel inputs) told tells result →
+      Finishes 0 (texts_from (λ input. run_text p plans input fuel false) 1 inputs) told tells result
   finishes_batch plans fuel inputs h =
       finishes_as 0 0 (batch_bytes q plans fuel inputs) (texts_from (λ input. run_text p plans input fuel false) 1 inputs) told tells result refl
       (ap (λ (x : Program). batch_bytes x plans fuel inputs) is ∙ batches_as plans fuel 1 inputs) h

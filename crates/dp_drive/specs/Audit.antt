@@ -8,14 +8,14 @@ use Rattle.dp_calls.specs.Expand.{expand}
 use Rattle.dp_plan.specs.declared.Plan.{Plan}
 use Rattle.dp_semantics.specs.Verdict.{source_run}
 use Rattle.dp_log.specs.LogText.{log_bytes}
-use Rattle.dp_load.specs.Last.{Behind, Logged, Nothing, SavedAt}
+use Rattle.dp_load.specs.Last.{LastText, Logged, Nothing, SavedAt}
 
 -- the log of a program's run: the program with its calls expanded
 abbrev pub log_of : Program → List Plan → List ℤ → ℕ → List ℕ
 log_of p plans input fuel = log_bytes (expand p) plans (source_run (expand p) input fuel)
 
 -- the bytes of the log that was read
-abbrev pub log_in : Behind → List ℕ
+abbrev pub log_in : LastText → List ℕ
 log_in (Logged text) = text
 log_in Nothing = []
 log_in (SavedAt c) = []

@@ -53,8 +53,10 @@ pub record ReadFailed (words : List (List ℕ)) (before after : Outside) (status
 -- A write failed: a front of the answer was written, or of the line on a failed read, and nothing after it. No other
 -- read failed.
 pub data WriteFailed (words : List (List ℕ)) (before after : Outside) : Type 0 where
-  OfAnswer : (status : ℕ) (bytes : List ℕ) → Answer words before.contents status bytes → ReadsOn before after → WroteFront bytes before after → WriteFailed words before after
-  OfFailedRead : (role : Role) (name : List ℕ) → IsRead words before.contents role name → before.failed_reads < after.failed_reads → FailsAt name before after → WroteFront (failed_read_line role) before after →
+  OfAnswer : (status : ℕ) (bytes : List ℕ) → Answer words before.contents status bytes → ReadsOn before after → WroteFront bytes before after →
+      WriteFailed words before after
+  OfFailedRead : (role : Role) (name : List ℕ) → IsRead words before.contents role name → before.failed_reads < after.failed_reads → FailsAt name before after →
+      WroteFront (failed_read_line role) before after →
       WriteFailed words before after
 
 -- What the words get, from the outside before to the outside after, with the exit status.
@@ -78,4 +80,5 @@ IsEnd status = (status ≡ 0) ⊎ (status ≡ 1) ⊎ (status ≡ 8)
 -- Where a run was asked for and ended, the tally grew by its iterations that were committed from a pipeline.
 abbrev pub IsCounted : List (List ℕ) → Contents → ℕ → ℕ → ℕ → Type 0
 IsCounted words contents before after status =
-    (asked : Asked) (fuel : ℕ) → Asks words asked → run_fuel asked ≡ Some fuel → IsEnd status → (count : ℕ) × Commits words contents count × (after ≡ before + count)
+    (asked : Asked) (fuel : ℕ) → Asks words asked → run_fuel asked ≡ Some fuel → IsEnd status → (count : ℕ) × Commits words contents count
+    × (after ≡ before + count)

@@ -7,7 +7,7 @@ use Rattle.dp_plan.specs.declared.Plan.{Plan}
 use Rattle.dp_plan.specs.GivenPlans.{ArePlans}
 use Rattle.dp_words.specs.declared.task.Place.{Place}
 use Rattle.dp_save.specs.declared.Checkpoint.{Checkpoint}
-use Rattle.dp_save.specs.Refused.{ReadsOnly}
+use Rattle.dp_save.specs.Refused.{ReadsOnlyCheckpoint}
 use Rattle.dp_save.specs.WrittenText.{checkpoint_bytes}
 use Rattle.dp_resume.specs.Saved.{checkpoint_at}
 use Rattle.dp_load.specs.Roles.{Contents, Input, ProgramOf}
@@ -17,7 +17,7 @@ use Rattle.dp_drive.specs.Pieces.{reached_at, saved_text}
 pub record EndsWith (p : Program) (text : List ℕ) (c : Checkpoint) : Type 0 where
   pub before : List ℕ
   pub is : text ≡ before ++ checkpoint_bytes c
-  pub read : ReadsOnly p (checkpoint_bytes c) c
+  pub read : ReadsOnlyCheckpoint p (checkpoint_bytes c) c
 
 -- Under plans that are given, a program that is read, on an input that is read, leaves such a text where its place is reached: after k steps.
 abbrev pub SavedTextsAreRead : Contents → Type 0

@@ -49,8 +49,20 @@ pub fn drive<R: Threads + Wait + Clock + Sync, N: NativeCode, S: Shelf, K: Sink,
 
     // From the outside before to the outside after: the answer to the words, or what a failed read or write leaves of it.
     ensures drives { Drives (map string_bytes words.now)
-        (record { contents = S.contents shelf.old; failed_reads = S.faults shelf.old; failed_names = S.failed_names shelf.old; written = K.written sink.old; failed_writes = K.faults sink.old })
-        (record { contents = S.contents shelf.new; failed_reads = S.faults shelf.new; failed_names = S.failed_names shelf.new; written = K.written sink.new; failed_writes = K.faults sink.new })
+        (record {
+          contents = S.contents shelf.old;
+          failed_reads = S.faults shelf.old;
+          failed_names = S.failed_names shelf.old;
+          written = K.written sink.old;
+          failed_writes = K.faults sink.old;
+        })
+        (record {
+          contents = S.contents shelf.new;
+          failed_reads = S.faults shelf.new;
+          failed_names = S.failed_names shelf.new;
+          written = K.written sink.new;
+          failed_writes = K.faults sink.new;
+        })
         result }
 
     // A run that was answered: the tally grew by the iterations that regions began, less those that were executed again.
@@ -131,9 +143,11 @@ fn answer_run<
     requires tally { tally.old < 2 ^ 63 }
     ensures contents { S.contents shelf.new ≡ S.contents shelf.old }
     ensures faults { FaultsAfter result (K.faults sink.old) (K.faults sink.new) }
-    ensures carried { (words : List (List ℕ)) → Asks words (ToRun (shown run.entry)) → Carried words (S.contents shelf.old) (S.faults shelf.old) (S.faults shelf.new)
+    ensures carried { (words : List (List ℕ)) → Asks words (ToRun (shown run.entry)) → Carried words (S.contents shelf.old) (S.faults shelf.old)
+        (S.faults shelf.new)
         (S.failed_names shelf.old) (S.failed_names shelf.new) (K.written sink.old) (K.written sink.new) result }
-    ensures counted { (words : List (List ℕ)) → Asks words (ToRun (shown run.entry)) → IfOk result (IsCounted words (S.contents shelf.old) tally.old tally.new) }
+    ensures counted { (words : List (List ℕ)) → Asks words (ToRun (shown run.entry)) →
+        IfOk result (IsCounted words (S.contents shelf.old) tally.old tally.new) }
 {
     match load_texts(alloc, run, shelf)? {
         Texts::Run(program, input, plans) => {

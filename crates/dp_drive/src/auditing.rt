@@ -32,7 +32,8 @@ pub fn answer_audit<S: Shelf, K: Sink>(
     requires sink { K.faults sink.old < 2 ^ 64 - 1 }
     ensures contents { S.contents shelf.new ≡ S.contents shelf.old }
     ensures faults { FaultsAfter result (K.faults sink.old) (K.faults sink.new) }
-    ensures carried { (words : List (List ℕ)) → Asks words (ToAudit (shown run.entry) log.now) → Carried words (S.contents shelf.old) (S.faults shelf.old) (S.faults shelf.new)
+    ensures carried { (words : List (List ℕ)) → Asks words (ToAudit (shown run.entry) log.now) → Carried words (S.contents shelf.old) (S.faults shelf.old)
+        (S.faults shelf.new)
         (S.failed_names shelf.old) (S.failed_names shelf.new) (K.written sink.old) (K.written sink.new) result }
 {
     match load_texts(alloc, run, shelf)? {
@@ -64,8 +65,10 @@ fn answer_log_text<S: Shelf, K: Sink>(
     ensures contents { S.contents shelf.new ≡ S.contents shelf.old }
     ensures faults { FaultsAfter result (K.faults sink.old) (K.faults sink.new) }
     ensures carried { (words : List (List ℕ)) → Asks words (ToAudit (shown texts.entry.run) log.now) →
-        WereLoaded (S.contents shelf.old) (shown texts.entry.run) (S.faults shelf.old) (S.failed_names shelf.old) texts.entry.program.now texts.entry.input.now texts.entry.plans.now →
-        Carried words (S.contents shelf.old) (S.faults shelf.old) (S.faults shelf.new) (S.failed_names shelf.old) (S.failed_names shelf.new) (K.written sink.old) (K.written sink.new) result }
+        WereLoaded (S.contents shelf.old) (shown texts.entry.run) (S.faults shelf.old) (S.failed_names shelf.old) texts.entry.program.now texts.entry.input.now
+        texts.entry.plans.now →
+        Carried words (S.contents shelf.old) (S.faults shelf.old) (S.faults shelf.new) (S.failed_names shelf.old) (S.failed_names shelf.new)
+        (K.written sink.old) (K.written sink.new) result }
 {
     match load_log(alloc, shelf, log)? {
         Loaded::Text(log) => compare(alloc, texts, &log, sink),
@@ -85,7 +88,8 @@ fn compare<K: Sink>(
     requires log { length log.now ≤ 16777216 }
     requires sink { K.faults sink.old < 2 ^ 64 - 1 }
     ensures faults { FaultsAfter result (K.faults sink.old) (K.faults sink.new) }
-    ensures finishes { let other = first_difference log.now (log_bytes texts.entry.program.now texts.entry.plans.now (source_run texts.entry.program.now texts.entry.input.now texts.entry.run.fuel)) in
+    ensures finishes { let other = first_difference log.now (log_bytes texts.entry.program.now texts.entry.plans.now
+        (source_run texts.entry.program.now texts.entry.input.now texts.entry.run.fuel)) in
         Finishes (audit_status other) (audit_line other) (K.written sink.old) (K.written sink.new) result }
 {
     let line = differing(alloc, texts, log)?;
@@ -96,7 +100,8 @@ fn compare<K: Sink>(
 fn differing(alloc: Global, texts: RunTexts, log: &Row<u8>) -> Result<Option<u32>, NoMemory>
     requires may { MayRun (shown texts.run) texts.program.now texts.input.now texts.plans.now }
     requires log { length log.now ≤ 16777216 }
-    ensures { IfOk result (λ line. line ≡ first_difference log.now (log_bytes texts.entry.program.now texts.entry.plans.now (source_run texts.entry.program.now texts.entry.input.now texts.entry.run.fuel))) }
+    ensures { IfOk result (λ line. line ≡ first_difference log.now (log_bytes texts.entry.program.now texts.entry.plans.now
+        (source_run texts.entry.program.now texts.entry.input.now texts.entry.run.fuel))) }
 {
     let plans = texts.plans.as_slice();
     let input = texts.input.as_slice();

@@ -38,7 +38,8 @@ pub fn answer_batch<R: Threads + Wait + Clock + Sync, S: Shelf, K: Sink>(
     requires sink { K.faults sink.old < 2 ^ 64 - 1 }
     ensures contents { S.contents shelf.new ≡ S.contents shelf.old }
     ensures faults { FaultsAfter result (K.faults sink.old) (K.faults sink.new) }
-    ensures carried { (words : List (List ℕ)) → Asks words (ToBatch (shown run.entry) list.now) → Carried words (S.contents shelf.old) (S.faults shelf.old) (S.faults shelf.new)
+    ensures carried { (words : List (List ℕ)) → Asks words (ToBatch (shown run.entry) list.now) → Carried words (S.contents shelf.old) (S.faults shelf.old)
+        (S.faults shelf.new)
         (S.failed_names shelf.old) (S.failed_names shelf.new) (K.written sink.old) (K.written sink.new) result }
 {
     match load_batch(alloc, run, list, shelf)? {

@@ -7,7 +7,7 @@ ghost use Rattle.dp_words.specs.Words.{Asks, ToLog};
 ghost use Rattle.dp_words.specs.Run.{RunWithin, shown};
 ghost use Rattle.dp_drive.specs.steps.Carried.{Carried, Finishes};
 ghost use Rattle.dp_drive.specs.steps.Given.{MayRun};
-ghost use Rattle.dp_refusal.specs.Refusal.{status_of};
+ghost use Rattle.dp_refusal.specs.Refusal.{exit_status};
 
 use crate::others::run_plans;
 use crate::texts::RunTexts;
@@ -35,7 +35,8 @@ pub fn answer_log<R: Wait + Clock, S: Shelf, K: Sink>(
     requires sink { K.faults sink.old < 2 ^ 64 - 1 }
     ensures contents { S.contents shelf.new ≡ S.contents shelf.old }
     ensures faults { FaultsAfter result (K.faults sink.old) (K.faults sink.new) }
-    ensures carried { (words : List (List ℕ)) → Asks words (ToLog (shown run.entry)) → Carried words (S.contents shelf.old) (S.faults shelf.old) (S.faults shelf.new)
+    ensures carried { (words : List (List ℕ)) → Asks words (ToLog (shown run.entry)) → Carried words (S.contents shelf.old) (S.faults shelf.old)
+        (S.faults shelf.new)
         (S.failed_names shelf.old) (S.failed_names shelf.new) (K.written sink.old) (K.written sink.new) result }
 {
     match load_texts(alloc, run, shelf)? {
@@ -64,7 +65,7 @@ fn write_log<R: Wait + Clock, K: Sink>(
     requires sink { K.faults sink.old < 2 ^ 64 - 1 }
     ensures faults { FaultsAfter result (K.faults sink.old) (K.faults sink.new) }
     ensures finishes { let source = source_run texts.entry.program.now texts.entry.input.now texts.entry.run.fuel in
-        Finishes (status_of source.end) (log_bytes texts.entry.program.now texts.entry.plans.now source) (K.written sink.old) (K.written sink.new) result }
+        Finishes (exit_status source.end) (log_bytes texts.entry.program.now texts.entry.plans.now source) (K.written sink.old) (K.written sink.new) result }
 {
     let options = LogOptions {
         fuel: texts.run.fuel,

@@ -7,7 +7,7 @@ ghost use Rattle.dp_words.specs.Words.{Asks, ToMake};
 ghost use Rattle.dp_words.specs.Made.{MadeWithin};
 ghost use Rattle.dp_load.specs.Roles.{Contents};
 ghost use Rattle.dp_drive.specs.steps.Carried.{Carried};
-ghost use Rattle.dp_load.specs.Texts.{Names};
+ghost use Rattle.dp_load.specs.Texts.{FailedNames};
 ghost use Rattle.dp_drive.specs.steps.Runs.{Runs};
 ghost use Rattle.dp_drive.specs.Headline.{IsCounted};
 ghost use Rattle.dp_drive.specs.Made.{made_line};
@@ -40,7 +40,7 @@ pub fn answer_gen<R: Threads + Wait + Clock + Sync, K: Sink, G: Gate, W: Watch>(
     requires sink { K.faults sink.old < 2 ^ 64 - 1 }
     requires tally { tally.old < 2 ^ 63 }
     ensures faults { FaultsAfter result (K.faults sink.old) (K.faults sink.new) }
-    ensures carried { (given : List (List ℕ)) (contents : Contents) (faults : ℕ) (failed : Names) → Asks given (ToMake words) →
+    ensures carried { (given : List (List ℕ)) (contents : Contents) (faults : ℕ) (failed : FailedNames) → Asks given (ToMake words) →
         Carried given contents faults faults failed failed (K.written sink.old) (K.written sink.new) result }
     ensures counted { (given : List (List ℕ)) (contents : Contents) → Asks given (ToMake words) → IfOk result (IsCounted given contents tally.old tally.new) }
 {
@@ -82,7 +82,8 @@ fn run_made<R: Threads + Wait + Clock + Sync, K: Sink, G: Gate, W: Watch>(
     requires sink { K.faults sink.old < 2 ^ 64 - 1 }
     requires tally { tally.old < 2 ^ 63 }
     ensures faults { FaultsAfter result (K.faults sink.old) (K.faults sink.new) }
-    ensures runs { Runs (made_line words) program.now plans.now input.now words.fuel false (K.written sink.old) (K.written sink.new) tally.old tally.new result }
+    ensures runs { Runs (made_line words) program.now plans.now input.now words.fuel false (K.written sink.old) (K.written sink.new)
+        tally.old tally.new result }
 {
     write_line(alloc, words, sink)?;
     let options = RunOptions {

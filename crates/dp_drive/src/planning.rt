@@ -45,7 +45,8 @@ pub fn answer_plan<S: Shelf, K: Sink>(
     requires sink { K.faults sink.old < 2 ^ 64 - 1 }
     ensures contents { S.contents shelf.new ≡ S.contents shelf.old }
     ensures faults { FaultsAfter result (K.faults sink.old) (K.faults sink.new) }
-    ensures carried { (words : List (List ℕ)) (asked : Asked) → ListsPlans text asked (shown_planning plan.entry) → Asks words asked → Carried words (S.contents shelf.old) (S.faults shelf.old) (S.faults shelf.new)
+    ensures carried { (words : List (List ℕ)) (asked : Asked) → ListsPlans text asked (shown_planning plan.entry) → Asks words asked →
+        Carried words (S.contents shelf.old) (S.faults shelf.old) (S.faults shelf.new)
         (S.failed_names shelf.old) (S.failed_names shelf.new) (K.written sink.old) (K.written sink.new) result }
 {
     match load_program(alloc, shelf, plan.program)? {
@@ -70,8 +71,10 @@ fn answer_least<S: Shelf, K: Sink>(
     requires sink { K.faults sink.old < 2 ^ 64 - 1 }
     ensures contents { S.contents shelf.new ≡ S.contents shelf.old }
     ensures faults { FaultsAfter result (K.faults sink.old) (K.faults sink.new) }
-    ensures carried { (words : List (List ℕ)) (asked : Asked) → ListsPlans text asked (shown_planning plan.entry) → Asks words asked → LoadsProgram (S.contents shelf.old) plan.entry.program.now (Ok program.now) →
-        Carried words (S.contents shelf.old) (S.faults shelf.old) (S.faults shelf.new) (S.failed_names shelf.old) (S.failed_names shelf.new) (K.written sink.old) (K.written sink.new) result }
+    ensures carried { (words : List (List ℕ)) (asked : Asked) → ListsPlans text asked (shown_planning plan.entry) → Asks words asked →
+        LoadsProgram (S.contents shelf.old) plan.entry.program.now (Ok program.now) →
+        Carried words (S.contents shelf.old) (S.faults shelf.old) (S.faults shelf.new) (S.failed_names shelf.old) (S.failed_names shelf.new)
+        (K.written sink.old) (K.written sink.new) result }
 {
     match load_counts(alloc, shelf, plan.profile, program)? {
         Loaded::Text(profile) => {

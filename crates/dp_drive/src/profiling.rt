@@ -8,7 +8,7 @@ ghost use Rattle.dp_words.specs.Words.{Asks, ToProfile};
 ghost use Rattle.dp_words.specs.Profiling.{shown_profiling};
 ghost use Rattle.dp_drive.specs.steps.Carried.{Carried, Finishes};
 ghost use Rattle.dp_load.specs.Loading.{LoadsProgram};
-ghost use Rattle.dp_refusal.specs.Refusal.{status_of};
+ghost use Rattle.dp_refusal.specs.Refusal.{exit_status};
 
 use crate::writing::{fail_read, refuse};
 use dp_base::Row;
@@ -32,7 +32,8 @@ pub fn answer_profile<S: Shelf, K: Sink>(
     requires sink { K.faults sink.old < 2 ^ 64 - 1 }
     ensures contents { S.contents shelf.new ≡ S.contents shelf.old }
     ensures faults { FaultsAfter result (K.faults sink.old) (K.faults sink.new) }
-    ensures carried { (words : List (List ℕ)) → Asks words (ToProfile (shown_profiling profile.entry)) → Carried words (S.contents shelf.old) (S.faults shelf.old) (S.faults shelf.new)
+    ensures carried { (words : List (List ℕ)) → Asks words (ToProfile (shown_profiling profile.entry)) →
+        Carried words (S.contents shelf.old) (S.faults shelf.old) (S.faults shelf.new)
         (S.failed_names shelf.old) (S.failed_names shelf.new) (K.written sink.old) (K.written sink.new) result }
 {
     match load_program(alloc, shelf, profile.program)? {
@@ -55,8 +56,10 @@ fn answer_input<S: Shelf, K: Sink>(
     requires sink { K.faults sink.old < 2 ^ 64 - 1 }
     ensures contents { S.contents shelf.new ≡ S.contents shelf.old }
     ensures faults { FaultsAfter result (K.faults sink.old) (K.faults sink.new) }
-    ensures carried { (words : List (List ℕ)) → Asks words (ToProfile (shown_profiling profile.entry)) → LoadsProgram (S.contents shelf.old) profile.entry.program.now (Ok program.now) →
-        Carried words (S.contents shelf.old) (S.faults shelf.old) (S.faults shelf.new) (S.failed_names shelf.old) (S.failed_names shelf.new) (K.written sink.old) (K.written sink.new) result }
+    ensures carried { (words : List (List ℕ)) → Asks words (ToProfile (shown_profiling profile.entry)) →
+        LoadsProgram (S.contents shelf.old) profile.entry.program.now (Ok program.now) →
+        Carried words (S.contents shelf.old) (S.faults shelf.old) (S.faults shelf.new) (S.failed_names shelf.old) (S.failed_names shelf.new)
+        (K.written sink.old) (K.written sink.new) result }
 {
     match load_words(alloc, shelf, profile.input)? {
         Loaded::Text(input) => show_run(alloc, program, &input, profile.fuel, sink),
@@ -77,7 +80,7 @@ fn show_run<K: Sink>(
     requires sink { K.faults sink.old < 2 ^ 64 - 1 }
     ensures faults { FaultsAfter result (K.faults sink.old) (K.faults sink.new) }
     ensures finishes { let shown = observed program.now input.now fuel in
-        Finishes (status_of shown.end) (profile_text program.now shown.profile) (K.written sink.old) (K.written sink.new) result }
+        Finishes (exit_status shown.end) (profile_text program.now shown.profile) (K.written sink.old) (K.written sink.new) result }
 {
     let shown = observe(alloc, program, input.as_slice(), fuel)?;
     let text = write_profile(alloc, &shown.profile, program)?;

@@ -10,7 +10,7 @@ ghost use Rattle.dp_resume.specs.Resumed.{resumed_bytes, resumed_run};
 ghost use Rattle.dp_drive.specs.steps.Carried.{Carried, Finishes};
 ghost use Rattle.dp_drive.specs.steps.Given.{MayRun, WereLoaded};
 ghost use Rattle.dp_drive.specs.steps.Saved.{status_at};
-ghost use Rattle.dp_refusal.specs.Refusal.{status_of};
+ghost use Rattle.dp_refusal.specs.Refusal.{exit_status};
 
 use crate::logging::size_of;
 use crate::others::run_plans;
@@ -44,7 +44,8 @@ pub fn answer_save<R: Threads + Wait + Clock + Sync, S: Shelf, K: Sink, G: Gate>
     requires sink { K.faults sink.old < 2 ^ 64 - 1 }
     ensures contents { S.contents shelf.new ≡ S.contents shelf.old }
     ensures faults { FaultsAfter result (K.faults sink.old) (K.faults sink.new) }
-    ensures carried { (words : List (List ℕ)) → Asks words (ToSave (shown run.entry) place) → Carried words (S.contents shelf.old) (S.faults shelf.old) (S.faults shelf.new)
+    ensures carried { (words : List (List ℕ)) → Asks words (ToSave (shown run.entry) place) → Carried words (S.contents shelf.old) (S.faults shelf.old)
+        (S.faults shelf.new)
         (S.failed_names shelf.old) (S.failed_names shelf.new) (K.written sink.old) (K.written sink.new) result }
 {
     match load_texts(alloc, run, shelf)? {
@@ -76,7 +77,8 @@ fn save_at<R: Threads + Wait + Clock + Sync, K: Sink, G: Gate>(
     requires sink { K.faults sink.old < 2 ^ 64 - 1 }
     ensures faults { FaultsAfter result (K.faults sink.old) (K.faults sink.new) }
     ensures finishes { Finishes (status_at (saved_end texts.entry.program.now texts.entry.input.now texts.entry.run.fuel place.region place.after))
-        (saved_bytes texts.entry.program.now texts.entry.plans.now texts.entry.input.now texts.entry.run.fuel place.region place.after) (K.written sink.old) (K.written sink.new) result }
+        (saved_bytes texts.entry.program.now texts.entry.plans.now texts.entry.input.now texts.entry.run.fuel place.region place.after) (K.written sink.old)
+        (K.written sink.new) result }
 {
     let place = SavePlace {
         region: place.region,
@@ -117,7 +119,8 @@ pub fn answer_resume<R: Threads + Wait + Clock + Sync, S: Shelf, K: Sink, G: Gat
     requires sink { K.faults sink.old < 2 ^ 64 - 1 }
     ensures contents { S.contents shelf.new ≡ S.contents shelf.old }
     ensures faults { FaultsAfter result (K.faults sink.old) (K.faults sink.new) }
-    ensures carried { (words : List (List ℕ)) → Asks words (ToResume (shown run.entry) checkpoint.now) → Carried words (S.contents shelf.old) (S.faults shelf.old) (S.faults shelf.new)
+    ensures carried { (words : List (List ℕ)) → Asks words (ToResume (shown run.entry) checkpoint.now) →
+        Carried words (S.contents shelf.old) (S.faults shelf.old) (S.faults shelf.new)
         (S.failed_names shelf.old) (S.failed_names shelf.new) (K.written sink.old) (K.written sink.new) result }
 {
     match load_texts(alloc, run, shelf)? {
@@ -151,8 +154,10 @@ fn answer_checkpoint<R: Threads + Wait + Clock + Sync, S: Shelf, K: Sink, G: Gat
     ensures contents { S.contents shelf.new ≡ S.contents shelf.old }
     ensures faults { FaultsAfter result (K.faults sink.old) (K.faults sink.new) }
     ensures carried { (words : List (List ℕ)) → Asks words (ToResume (shown texts.entry.run) name.now) →
-        WereLoaded (S.contents shelf.old) (shown texts.entry.run) (S.faults shelf.old) (S.failed_names shelf.old) texts.entry.program.now texts.entry.input.now texts.entry.plans.now →
-        Carried words (S.contents shelf.old) (S.faults shelf.old) (S.faults shelf.new) (S.failed_names shelf.old) (S.failed_names shelf.new) (K.written sink.old) (K.written sink.new) result }
+        WereLoaded (S.contents shelf.old) (shown texts.entry.run) (S.faults shelf.old) (S.failed_names shelf.old) texts.entry.program.now texts.entry.input.now
+        texts.entry.plans.now →
+        Carried words (S.contents shelf.old) (S.faults shelf.old) (S.faults shelf.new) (S.failed_names shelf.old) (S.failed_names shelf.new)
+        (K.written sink.old) (K.written sink.new) result }
 {
     match load_checkpoint(alloc, shelf, name, texts.program)? {
         Loaded::Text(checkpoint) => resume_at(rt, alloc, texts, checkpoint, sink, gate),
@@ -174,7 +179,7 @@ fn resume_at<R: Threads + Wait + Clock + Sync, K: Sink, G: Gate>(
     requires fits { Fits texts.program.now checkpoint }
     requires sink { K.faults sink.old < 2 ^ 64 - 1 }
     ensures faults { FaultsAfter result (K.faults sink.old) (K.faults sink.new) }
-    ensures finishes { Finishes (status_of (resumed_run texts.entry.program.now texts.entry.input.now checkpoint).end)
+    ensures finishes { Finishes (exit_status (resumed_run texts.entry.program.now texts.entry.input.now checkpoint).end)
         (resumed_bytes texts.entry.program.now texts.entry.plans.now texts.entry.input.now checkpoint) (K.written sink.old) (K.written sink.new) result }
 {
     let plans = texts.plans.as_slice();

@@ -21,7 +21,8 @@ pub front_taken : (text : List ℕ) (told tells : Option (List ℕ)) → ((n : �
 front_taken text told tells h = record { front = take h.0 text; rest = drop h.0 text; splits = sym (take-append-drop h.0 text); sink = h.1 }
 
 -- a front of what follows a text that was written
-pub front_behind : (text a b : List ℕ) (told mid tells : Option (List ℕ)) → text ≡ a ++ b → mid ≡ appended a told → WritesFront b mid tells → WritesFront text told tells
+pub front_behind : (text a b : List ℕ) (told mid tells : Option (List ℕ)) → text ≡ a ++ b → mid ≡ appended a told → WritesFront b mid tells →
+    WritesFront text told tells
 front_behind text a b told mid tells e m w = record {
   front = a ++ w.front;
   rest = w.rest;
@@ -31,4 +32,5 @@ front_behind text a b told mid tells e m w = record {
 
 -- a front of a text is one of each longer text
 pub front_more : (a b : List ℕ) (told tells : Option (List ℕ)) → WritesFront a told tells → WritesFront (a ++ b) told tells
-front_more a b told tells w = record { front = w.front; rest = w.rest ++ b; splits = ap (λ (x : List ℕ). x ++ b) w.splits ∙ append_assoc w.front w.rest b; sink = w.sink }
+front_more a b told tells w =
+    record { front = w.front; rest = w.rest ++ b; splits = ap (λ (x : List ℕ). x ++ b) w.splits ∙ append_assoc w.front w.rest b; sink = w.sink }

@@ -13,8 +13,8 @@ abbrev pub are_digits : List ℕ → Bool
 are_digits bytes = is_full bytes && list_all is_digit bytes
 
 -- the number that digits write
-abbrev pub value_of : List ℕ → ℕ
-value_of = value_after 0
+abbrev pub digits_worth : List ℕ → ℕ
+digits_worth = value_after 0
 
 -- the number that one or more digits write, where it is below 2 ^ 64
 abbrev pub magnitude_of : List ℕ → Option ℕ

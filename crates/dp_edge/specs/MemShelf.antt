@@ -1,5 +1,6 @@
 -- A shelf in memory.
-use Rattle.std.specs.Prelude.{◌≡◌, ℕ, ◌+◌, ◌-◌, ◌^◌, min, Bool, if◌then◌else◌, nat_le, ◌==◌, List, [], ◌∷◌, ◌++◌, length, Option, Some, None, Result, Ok, Err, Vec}
+use Rattle.std.specs.Prelude.{◌≡◌, ℕ, ◌+◌, ◌-◌, ◌^◌, min, Bool, if◌then◌else◌, nat_le, ◌==◌, List, [], ◌∷◌, ◌++◌, length, Option, Some, None, Result, Ok, Err}
+use Rattle.std.specs.Prelude.{Vec}
 use Rattle.std.specs.List.{find, list_any}
 use Rattle.std.specs.Option.{option_map}
 use Rattle.std.specs.Cmp.Lexicographic.{pointwise}
@@ -34,20 +35,20 @@ abbrev pub fails_next : Stock → Bool
 fails_next stock = list_any (λ call. call == counted stock.calls 1) stock.failing
 
 -- a content as far as there is room for it
-abbrev pub given : Option (List ℕ) → ℕ → Result (List ℕ) ShelfFail
-given None room = Err Failed
-given (Some content) room = if nat_le (length content) room then Ok content else Err TooLong
+abbrev pub given_content : Option (List ℕ) → ℕ → Result (List ℕ) ShelfFail
+given_content None room = Err Failed
+given_content (Some content) room = if nat_le (length content) room then Ok content else Err TooLong
 
 -- what the next call answers where memory suffices
 abbrev pub next_answer : Stock → List ℕ → ℕ → Result (List ℕ) ShelfFail
-next_answer stock name room = if fails_next stock then Err Failed else given (content_of stock.held name) room
+next_answer stock name room = if fails_next stock then Err Failed else given_content (content_of stock.held name) room
 
 -- the answer is the wanted one, or want of memory
-abbrev pub Answers : Result (Vec ℕ Global) ShelfFail → Result (List ℕ) ShelfFail → Type 0
-Answers (Ok bytes) wanted = wanted ≡ Ok bytes.items
-Answers (Err Failed) wanted = wanted ≡ Err Failed
-Answers (Err TooLong) wanted = wanted ≡ Err TooLong
-Answers (Err NoMemory) wanted = Unit {0}
+abbrev pub AnswersAsWanted : Result (Vec ℕ Global) ShelfFail → Result (List ℕ) ShelfFail → Type 0
+AnswersAsWanted (Ok bytes) wanted = wanted ≡ Ok bytes.items
+AnswersAsWanted (Err Failed) wanted = wanted ≡ Err Failed
+AnswersAsWanted (Err TooLong) wanted = wanted ≡ Err TooLong
+AnswersAsWanted (Err NoMemory) wanted = Unit {0}
 
 -- The shelf after a call that answers so. Each call is counted, a failed one also as a fault with its name, and the
 -- bytes that are given, or one more than there is room for, as taken.

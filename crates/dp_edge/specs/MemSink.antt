@@ -11,14 +11,14 @@ pub record Basin : Type 0 where
   pub faults : ℕ
 
 -- there is room for so many bytes
-abbrev pub fits : Option ℕ → ℕ → Bool
-fits None n = true
-fits (Some left) n = nat_le n left
+abbrev pub has_room_for : Option ℕ → ℕ → Bool
+has_room_for None n = true
+has_room_for (Some left) n = nat_le n left
 
 -- `Ok` comes where all bytes fit, `Failed` where they don't, and want of memory in the place of either.
 abbrev pub AnswersPut : {X : Type 0} → Result X PutFail → Basin → List ℕ → Type 0
-AnswersPut (Ok done) basin bytes = fits basin.left (length bytes) ≡ true
-AnswersPut (Err Failed) basin bytes = fits basin.left (length bytes) ≡ false
+AnswersPut (Ok done) basin bytes = has_room_for basin.left (length bytes) ≡ true
+AnswersPut (Err Failed) basin bytes = has_room_for basin.left (length bytes) ≡ false
 AnswersPut (Err NoMemory) basin bytes = Unit {0}
 
 -- The sink after a put that answers so. A failed one takes as many bytes as there is room for and counts a fault.

@@ -27,8 +27,8 @@ OnTooLong (Err TooLong) P = P
 OnTooLong (Err NoMemory) P = Unit {0}
 
 -- a count of bytes rose by at least this number, or stands at its greatest value
-abbrev pub Took : ℕ → ℕ → ℕ → Type 0
-Took n old new = (old + n ≤ new) ⊎ (new ≡ 2 ^ 64 - 1)
+abbrev pub TookBytes : ℕ → ℕ → ℕ → Type 0
+TookBytes n old new = (old + n ≤ new) ⊎ (new ≡ 2 ^ 64 - 1)
 
 -- The answer is true of what is held under the name: `Ok` gives all of it, and `TooLong` comes where it is longer than
 -- the room.

@@ -1,7 +1,7 @@
 //! The reader of input texts.
 ghost use Rattle.std.specs.Prelude.{◌≡◌, ◌+◌, ◌<◌, ◌≤◌, ◌∷◌, [], not, length, IfSome, MatchOption};
 ghost use Rattle.std.specs.List.{position};
-ghost use Rattle.dp_edge.specs.Input.{is_blank, words, number_of, numbers_at, numbers_of, AnswersInput};
+ghost use Rattle.dp_edge.specs.Input.{is_blank, input_words, number_written, numbers_at, numbers_of, AnswersInput};
 ghost use Rattle.dp_edge.specs.Digits.{magnitude_of};
 
 use dp_base::limits::{COUNTED, INPUT_WORDS};
@@ -52,7 +52,7 @@ fn first_blank(text: &[u8]) -> Option<usize>
 
 // The first word, and what follows it.
 fn next_word(text: &[u8]) -> Option<(&[u8], &[u8])>
-    ensures words { MatchOption result (words text.now ≡ []) (λ next. words text.now ≡ next.0.now ∷ words next.1.now) }
+    ensures words { MatchOption result (input_words text.now ≡ []) (λ next. input_words text.now ≡ next.0.now ∷ input_words next.1.now) }
     ensures shorter { IfSome result (λ next. length next.1.now < length text.now) }
 {
     let (_, rest) = text.split_at(first_word(text)?);
@@ -61,7 +61,7 @@ fn next_word(text: &[u8]) -> Option<(&[u8], &[u8])>
 }
 
 fn count_words(text: &[u8]) -> usize
-    ensures { result ≡ length (words text.now) }
+    ensures { result ≡ length (input_words text.now) }
 {
     let mut count = 0;
     let mut rest = text;
@@ -83,7 +83,7 @@ fn magnitude(digits: &[u8]) -> Option<u64>
 }
 
 fn number(word: &[u8]) -> Option<i64>
-    ensures { result ≡ number_of word.now }
+    ensures { result ≡ number_written word.now }
 {
     match word {
         [b'-', digits @ ..] => 0i64.checked_sub_unsigned(magnitude(digits)?),
@@ -92,8 +92,8 @@ fn number(word: &[u8]) -> Option<i64>
 }
 
 fn read_words(alloc: Global, text: &[u8], count: usize) -> Result<Row<i64>, InputFail>
-    requires { length (words text.now) ≤ INPUT_WORDS }
-    ensures { AnswersInput result (numbers_at 1 (words text.now)) }
+    requires { length (input_words text.now) ≤ INPUT_WORDS }
+    ensures { AnswersInput result (numbers_at 1 (input_words text.now)) }
 {
     let mut numbers = Row::with_capacity(alloc, count)?;
     let mut rest = text;

@@ -34,7 +34,14 @@ impl Model for MemShelf {
 
     ghost Value = { Stock };
 
-    ghost view = { λ shelf. record { held = shelf.held; failing = shelf.failing; calls = shelf.calls; failed_names = shelf.failed_names; faults = shelf.faults; taken = shelf.taken } };
+    ghost view = { λ shelf. record {
+      held = shelf.held;
+      failing = shelf.failing;
+      calls = shelf.calls;
+      failed_names = shelf.failed_names;
+      faults = shelf.faults;
+      taken = shelf.taken;
+    } };
 }
 
 impl MemShelf {
@@ -81,8 +88,8 @@ fn find<'a>(held: &'a [Held], name: &[u8]) -> Option<&'a [u8]>
 impl Shelf for MemShelf {
     ghost use Rattle.std.specs.Prelude.{◌≡◌, ◌+◌, ◌-◌, ◌^◌, ◌<◌, ◌≤◌, length, IfOk, IfSome, Some};
     ghost use Rattle.std.specs.Option.{option_map};
-    ghost use Rattle.dp_edge.specs.Shelf.{FaultsAfterRead, names_after_read, OnTooLong, Took, ReadsContent};
-    ghost use Rattle.dp_edge.specs.MemShelf.{content_of, Answers, next_answer, after_read};
+    ghost use Rattle.dp_edge.specs.Shelf.{FaultsAfterRead, names_after_read, OnTooLong, TookBytes, ReadsContent};
+    ghost use Rattle.dp_edge.specs.MemShelf.{content_of, AnswersAsWanted, next_answer, after_read};
 
     ghost contents = { λ shelf. Some (content_of shelf.held) };
 
@@ -94,7 +101,7 @@ impl Shelf for MemShelf {
 
     fn read(&mut self, alloc: Global, name: &str, room: u32) -> Result<Vec<u8>, ShelfFail>
         requires { self.old.faults < 2 ^ 64 - 1 }
-        ensures answer { Answers result (next_answer self.old name.now room) }
+        ensures answer { AnswersAsWanted result (next_answer self.old name.now room) }
         ensures taken { self.old.taken ≤ self.new.taken }
         ensures after { self.new ≡ after_read result self.old name.now room }
     {

@@ -1,7 +1,7 @@
 //! Where texts are read from.
 ghost use Rattle.std.specs.Prelude.{◌≡◌, ℕ, ◌+◌, ◌-◌, ◌^◌, ◌<◌, ◌≤◌, List, Option, length, IfOk, IfSome};
 ghost use Rattle.std.specs.Option.{option_map};
-ghost use Rattle.dp_edge.specs.Shelf.{FaultsAfterRead, names_after_read, OnTooLong, Took, ReadsContent};
+ghost use Rattle.dp_edge.specs.Shelf.{FaultsAfterRead, names_after_read, OnTooLong, TookBytes, ReadsContent};
 
 use dp_base::NoMemory;
 use std::alloc::{AllocError, Global};
@@ -51,7 +51,7 @@ pub trait Shelf {
         ensures within { IfOk result (λ bytes. length bytes.items ≤ room) }
         ensures content { IfSome (contents self.old) (λ held. ReadsContent result (held name.now) room) }
         ensures taken { taken self.old ≤ taken self.new }
-        ensures too_long { OnTooLong result (Took (room + 1) (taken self.old) (taken self.new)) };
+        ensures too_long { OnTooLong result (TookBytes (room + 1) (taken self.old) (taken self.new)) };
 }
 
 impl From<NoMemory> for ShelfFail {

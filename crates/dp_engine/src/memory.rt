@@ -72,6 +72,7 @@ fn number(version: &Version, cell: u32) -> i64
 }
 
 /// Puts a number into a cell, if there is one. At `Err` the version is as it was.
+#[inline(always)]
 fn put_version(version: &mut Version, cell: u32, value: i64) -> Result<(), NoMemory>
     ensures ok { OnOk result (version.new ≡ slice_set version.old cell value) }
     ensures err { OnErr result (version.new ≡ version.old) }

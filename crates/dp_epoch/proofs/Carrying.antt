@@ -35,16 +35,20 @@ module _ (plan : Plan) (first : MachineState) (c : CommittedState) (account : Ac
   own = carried (done_in plan (region_run first) c.count)
 
   -- what leads to the same memory as the source's own stores, with the same prints, steps and end
-  pub carries_next : (v : Carried) → v.prints ≡ own.prints → v.steps ≡ own.steps → v.closing ≡ own.closing → ((cells : List ℤ) → memory_behind_stores plan.region first.program.vars v.stores cells ≡ memory_behind_stores plan.region first.program.vars own.stores cells) → has_ended run plan.region c.count ≡ true → CarriesNext c v
+  pub carries_next : (v : Carried) → v.prints ≡ own.prints → v.steps ≡ own.steps → v.closing ≡ own.closing →
+      ((cells : List ℤ) → memory_behind_stores plan.region first.program.vars v.stores cells ≡ memory_behind_stores plan.region first.program.vars own.stores
+      cells) → has_ended run plan.region c.count ≡ true → CarriesNext c v
   carries_next v prints_same steps_same closing_same_so lead ended =
-      let stores_same : own.stores ≡ stores_of (iteration (rest_of_run c.machine) plan.region 0) = chosen store_made (iteration run plan.region c.count) ∙ ap stores_of iteration_same in
+      let stores_same : own.stores ≡ stores_of (iteration (rest_of_run c.machine) plan.region 0) = chosen store_made (iteration run plan.region c.count)
+      ∙ ap stores_of iteration_same in
       let next : CarriesNext (record { machine = c.machine; region = plan.region; count = c.count }) v = record {
         iteration_is = record {
           ended = sym ended_same ∙ ended;
           stores_lead = λ cells.
               ap (λ (p : Program). memory_behind_stores plan.region p.vars v.stores cells) g.holds.program ∙ lead cells
               ∙ ap (λ (stores : List StoreOf). memory_behind_stores plan.region first.program.vars stores cells) stores_same
-              ∙ ap (λ (p : Program). memory_behind_stores plan.region p.vars (stores_of (iteration (rest_of_run c.machine) plan.region 0)) cells) (sym g.holds.program);
+              ∙ ap (λ (p : Program). memory_behind_stores plan.region p.vars (stores_of (iteration (rest_of_run c.machine) plan.region 0)) cells)
+              (sym g.holds.program);
           steps_are = steps_same ∙ length-map (iteration run plan.region c.count) effect_in ∙ ap length iteration_same;
           closing_is = closing_same_so ∙ closing_same;
         };

@@ -1,5 +1,6 @@
 -- The region has ended: it was left.
-use Rattle.std.proofs.Common.{◌≡◌, refl, sym, ap, ◌∙◌, subst, ℕ, suc, ◌+◌, ◌<◌, Bool, true, false, cond, List, [], ◌∷◌, All, map, drop, length, lt-ltb, Option, Some, None, ℤ, arith}
+use Rattle.std.proofs.Common.{◌≡◌, refl, sym, ap, ◌∙◌, subst, ℕ, suc, ◌+◌, ◌<◌, Bool, true, false, cond, List, [], ◌∷◌, All, map, drop, length, lt-ltb, Option}
+use Rattle.std.proofs.Common.{Some, None, ℤ, arith}
 use Rattle.dp_epoch.specs.declared.account.Account.{Account}
 use Rattle.dp_plan.specs.declared.Plan.{Plan}
 use Rattle.dp_tree.specs.Step.{Config, Event}
@@ -11,7 +12,7 @@ use Rattle.dp_meaning.specs.declared.ends.IterEnd.TheVariants as iter_end
 use Rattle.dp_meaning.specs.Continues.{Continues}
 use Rattle.dp_meaning.specs.MachineState.{MachineState, rest_of_run}
 use Rattle.dp_meaning.specs.IterationRun.{IterationRun, has_closed}
-use Rattle.dp_commit.specs.CommittedState.{CommittedState, Holds, IsInside, region_run, steps_of_first}
+use Rattle.dp_commit.specs.CommittedState.{CommittedState, HoldsCommitted, IsInside, region_run, steps_of_first}
 use Rattle.dp_commit.proofs.Committing.{held_closed}
 use Rattle.dp_tree.specs.InMain.{StandsInMain}
 use Rattle.dp_epoch.specs.declared.ends.RegionEnd.TheVariants as region_end
@@ -38,15 +39,18 @@ module _ (plan : Plan) (first : MachineState) (c : CommittedState) (account : Ac
   made = steps_of_first (region_run first) plan.region c.count
 
   -- all begun iterations were made
-  pub made_by : (events : List Event) (configs : List Config) (n : ℕ) → begun_count run plan.region ≡ n → events ≡ events_of_first run plan.region n → Continues run events configs (rest_of_run m) → All (IsInside plan.region) configs →
-      m.steps ≡ first.steps + length events → m.program ≡ first.program → m.input ≡ first.input → m.fuel ≡ first.fuel → StandsInMain first.program m.config → m.spoiled ≡ false → RegionMade first.program plan first m
+  pub made_by : (events : List Event) (configs : List Config) (n : ℕ) → begun_count run plan.region ≡ n → events ≡ events_of_first run plan.region n →
+      Continues run events configs (rest_of_run m) → All (IsInside plan.region) configs →
+      m.steps ≡ first.steps + length events → m.program ≡ first.program → m.input ≡ first.input → m.fuel ≡ first.fuel → StandsInMain first.program m.config →
+      m.spoiled ≡ false → RegionMade first.program plan first m
   made_by events configs n count is piece inside steps program input fuel stands sound =
       let same : events ≡ events_of_first run plan.region (begun_count run plan.region) = is ∙ ap (events_of_first run plan.region) (sym count) in
       record {
         configs = configs;
         piece = subst (λ (es : List Event). Continues run es configs (rest_of_run m)) same piece;
         steps = steps ∙ ap (λ (es : List Event). first.steps + length es) same;
-        others = λ other h. others_behind plan.region run (rest_of_run m) events configs piece inside other h ∙ ap (λ (es : List Event). map (beyond (length es)) (starts (rest_of_run m) other)) same;
+        others = λ other h. others_behind plan.region run (rest_of_run m) events configs piece inside other h
+            ∙ ap (λ (es : List Event). map (beyond (length es)) (starts (rest_of_run m) other)) same;
         program = program;
         input = input;
         fuel = fuel;
@@ -59,12 +63,13 @@ module _ (plan : Plan) (first : MachineState) (c : CommittedState) (account : Ac
 
   -- The region was left.
   module _ (turns : ℕ) (before after : List ℤ) (call : IterationRun c.region turns c.machine m before after iter_end.Closed) where
-    held : Holds first (record c { machine = m; count = c.count + 1 })
+    held : HoldsCommitted first (record c { machine = m; count = c.count + 1 })
     held = (held_closed first c g.holds g.is_open m turns before after (once plan first c account g c.count _ (started first c g.holds g.is_open)) call).held
 
     pub events_are : iteration run plan.region c.count ≡ call.events
     events_are = ap (λ (r : ℕ). iteration run r c.count) (sym g.region)
-        ∙ (held_closed first c g.holds g.is_open m turns before after (once plan first c account g c.count _ (started first c g.holds g.is_open)) call).iteration_is
+        ∙ (held_closed first c g.holds g.is_open m turns before after
+        (once plan first c account g c.count _ (started first c g.holds g.is_open)) call).iteration_is
 
     pub closing_here : is_closing run plan.region c.count ≡ true
     closing_here = ap closes events_are ∙ ap (λ (o : Option ℕ). has_closed o call.events) (sym g.is_open.between) ∙ call.stops.closed
@@ -89,11 +94,14 @@ module _ (plan : Plan) (first : MachineState) (c : CommittedState) (account : Ac
     stands : StandsInMain first.program m.config
     stands = stands_there plan first g.start (record c { machine = m; count = c.count + 1 }) held
 
-    pub closed_done : (more : Account) → Reports more (report_before plan first (c.count + 1)) → RegionDone plan first (record c { machine = m; count = c.count + 1 }) more region_end.Closed
+    pub closed_done : (more : Account) → Reports more (report_before plan first (c.count + 1)) →
+        RegionDone plan first (record c { machine = m; count = c.count + 1 }) more region_end.Closed
     closed_done more told = record {
       ran = record {
-        made = made_by (events_of_first run c.region (c.count + 1)) held.configs (c.count + 1) begun_is (ap (λ (r : ℕ). events_of_first run r (c.count + 1)) g.region) held.piece
-            (subst (λ (r : ℕ). All (IsInside r) held.configs) g.region held.inside) held.steps held.program held.input held.fuel stands (call.spoiled ∙ g.is_open.sound);
+        made = made_by (events_of_first run c.region (c.count + 1)) held.configs (c.count + 1) begun_is
+            (ap (λ (r : ℕ). events_of_first run r (c.count + 1)) g.region) held.piece
+            (subst (λ (r : ℕ). All (IsInside r) held.configs) g.region held.inside) held.steps held.program held.input held.fuel stands
+            (call.spoiled ∙ g.is_open.sound);
         ends = record {
           iteration = c.count;
           is_last = begun_is ∙ (let e : c.count + 1 ≡ suc c.count = omega arith in e);

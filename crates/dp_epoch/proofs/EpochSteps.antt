@@ -1,5 +1,6 @@
 -- An epoch goes on over one more verdict.
-use Rattle.std.proofs.Common.{◌≡◌, ◌⊎◌, inl, inr, refl, sym, ap, ◌∙◌, ℕ, suc, ◌+◌, ◌<◌, Bool, true, false, not, ◌&&◌, ◌≤◌, if◌then◌else◌, List, map, length, Option, Some, None, ℤ, arith, subst}
+use Rattle.std.proofs.Common.{◌≡◌, ◌⊎◌, inl, inr, refl, sym, ap, ◌∙◌, ℕ, suc, ◌+◌, ◌<◌, Bool, true, false, not, ◌&&◌, ◌≤◌, if◌then◌else◌, List, map, length}
+use Rattle.std.proofs.Common.{Option, Some, None, ℤ, arith, subst}
 use Rattle.std.specs.Option.{option_map}
 use Rattle.std.proofs.lemmas.List.{length-map}
 use Rattle.std.proofs.lemmas.Bool.{cases_lt}
@@ -43,7 +44,8 @@ pub ended_of : (a b d e : Bool) → (a && b && d && e) ≡ true → a ≡ true
 ended_of true b d e h = refl
 ended_of false b d e h = h
 
-module _ (key : EpochKey) (n : ℕ) (first : MachineState) (c : CommittedState) (account : Account) (e : InEpoch key n first c account) (v : Carried) (q : IsClean key n first c account e v) where
+module _ (key : EpochKey) (n : ℕ) (first : MachineState) (c : CommittedState) (account : Account) (e : InEpoch key n first c account) (v : Carried)
+    (q : IsClean key n first c account e v) where
   abbrev run : Run
   run = region_run first
 
@@ -65,8 +67,10 @@ module _ (key : EpochKey) (n : ℕ) (first : MachineState) (c : CommittedState) 
   -- What is carried is the next iteration.
   pub carries : CarriesNext c v
   carries =
-      let lead : (cells : List ℤ) → memory_behind_stores plan.region p.vars v.stores cells ≡ memory_behind_stores plan.region p.vars (carried (done_in plan run i)).stores cells = λ cells.
-      subst (λ (x : Program). memory_behind_stores plan.region x.vars v.stores cells ≡ memory_behind_stores plan.region x.vars (carried (done_in plan run i)).stores cells) e.key_is.program (q.alike.3 cells) in
+      let lead : (cells : List ℤ) → memory_behind_stores plan.region p.vars v.stores cells ≡ memory_behind_stores plan.region p.vars
+      (carried (done_in plan run i)).stores cells = λ cells.
+      subst (λ (x : Program). memory_behind_stores plan.region x.vars v.stores cells ≡ memory_behind_stores plan.region x.vars
+      (carried (done_in plan run i)).stores cells) e.key_is.program (q.alike.3 cells) in
       carries_next plan first c account e.progress v q.alike.0 q.alike.1 q.alike.2 lead ended_here
 
   not_again : is_recovered p plan run i ≡ false
@@ -78,29 +82,36 @@ module _ (key : EpochKey) (n : ℕ) (first : MachineState) (c : CommittedState) 
       let next : suc i ≡ i + 1 = omega arith in
       ap (λ (a : Account). a.report) is ∙ ap (λ (x : RegionReport). record x { iterations = i + 1 }) e.progress.report_is
       ∙ told_iterations account.why (report_before plan first i) (i + 1)
-      ∙ ap (λ (again : List ℕ). told_when account.why (report_of plan.region (i + 1) again (cause_of plan first))) (sym (again_clean plan first i not_again) ∙ ap (again_before plan first) next)
+      ∙ ap (λ (again : List ℕ). told_when account.why (report_of plan.region (i + 1) again (cause_of plan first))) (sym (again_clean plan first i not_again)
+      ∙ ap (again_before plan first) next)
       ∙ ap (λ (w : Bool). told_when w (report_before plan first (i + 1))) (sym (ap (λ (a : Account). a.why) is))
 
   -- what is kept for causes then
   module _ (new : CommittedState) (made : Remade c new v.prints iter_end.Next) (going : is_closing (region_run first) key.plan.region c.count ≡ false) where
-    watch_on : (why : Bool) (views seen : Option Viewed) → Watching plan first i why views → HearsOn c.machine new.machine views seen → Watching plan first (i + 1) why (option_map seen_clean seen)
+    watch_on : (why : Bool) (views seen : Option Viewed) → Watching plan first i why views → HearsOn c.machine new.machine views seen →
+        Watching plan first (i + 1) why (option_map seen_clean seen)
     watch_on why None None k heard =
         let next : suc i ≡ i + 1 = omega arith in
-        λ asked. (let many = k asked in let same_size = ap length (sym (ap (again_before plan first) next) ∙ again_clean plan first i not_again) in omega (arith, many, same_size))
+        λ asked. (let many = k asked in let same_size = ap length (sym (ap (again_before plan first) next) ∙ again_clean plan first i not_again) in
+        omega (arith, many, same_size))
     watch_on why None (Some w) k heard = absurd heard
     watch_on why (Some u) None k heard = absurd heard
     watch_on why (Some u) (Some w) k heard =
         let next : suc i ≡ i + 1 = omega arith in
-        let kept = seen_next plan first c account e.progress u k.1 q.clean ended_here going w (heard_all plan first c account e.progress new v.prints None made u w k.1 heard) in (
+        let kept = seen_next plan first c account e.progress u k.1 q.clean ended_here going w (heard_all plan first c account e.progress new v.prints None
+        made u w k.1 heard) in (
           k.0,
           subst (λ (m : ℕ). KeptBefore p plan run (epoch p plan run m) m (seen_clean w)) next kept,
         )
 
-    pub watching_on : (more : Account) (counted : CountsClean c new account more) → more ≡ after_clean (i + 1) counted.seen account → Watching plan first (i + 1) more.why more.views
+    pub watching_on : (more : Account) (counted : CountsClean c new account more) → more ≡ after_clean (i + 1) counted.seen account →
+        Watching plan first (i + 1) more.why more.views
     watching_on more counted is =
-        subst (λ (a : Account). Watching plan first (i + 1) a.why a.views) (sym is) (watch_on account.why account.views counted.seen e.progress.views_are counted.heard)
+        subst (λ (a : Account). Watching plan first (i + 1) a.why a.views) (sym is)
+        (watch_on account.why account.views counted.seen e.progress.views_are counted.heard)
 
-  module _ (turns : ℕ) (before after : List ℤ) (m : MachineState) (call : IterationRun c.region turns c.machine m before after iter_end.Next) (open_yet : v.closing ≡ false) where
+  module _ (turns : ℕ) (before after : List ℤ) (m : MachineState) (call : IterationRun c.region turns c.machine m before after iter_end.Next)
+      (open_yet : v.closing ≡ false) where
     pub going : is_closing (region_run first) key.plan.region c.count ≡ false
     going = sym closing_is ∙ open_yet
 
@@ -108,7 +119,8 @@ module _ (key : EpochKey) (n : ℕ) (first : MachineState) (c : CommittedState) 
     effects = map effect_in (iteration run plan.region i)
 
     events_are : iteration run plan.region i ≡ call.events
-    events_are = ap (λ (r : ℕ). iteration run r i) (sym e.progress.region) ∙ (held_next first c e.progress.holds e.progress.is_open m turns before after call).iteration_is
+    events_are = ap (λ (r : ℕ). iteration run r i) (sym e.progress.region)
+        ∙ (held_next first c e.progress.holds e.progress.is_open m turns before after call).iteration_is
 
     cells_next : clear_locals plan.region key.program.vars (applied effects c.machine.config.cells) ≡ m.config.cells
     cells_next =
@@ -120,13 +132,16 @@ module _ (key : EpochKey) (n : ℕ) (first : MachineState) (c : CommittedState) 
         ∙ sym lead.memory ∙ ap (memory_after run plan.region) next ∙ ap (λ (r : ℕ). memory_after run r (i + 1)) (sym e.progress.region) ∙ sym held.memory
 
     steps_next : c.machine.steps + length effects ≡ m.steps
-    steps_next = let size = length-map (iteration run plan.region i) effect_in in let events = ap length events_are in omega (arith, size, events, call.moved.steps)
+    steps_next = let size = length-map (iteration run plan.region i) effect_in in let events = ap length events_are in
+        omega (arith, size, events, call.moved.steps)
 
     state_next : state_at key (n + 1) ≡ record { cells = m.config.cells; steps = m.steps }
     state_next =
         let next : n + 1 ≡ suc n = omega arith in
-        ap (state_at key) next ∙ ap (after_judgement key (state_at key n)) q.judged_so ∙ ap (λ (s : JudgeState). after_judgement key s (Clean (done_in plan run i))) e.state
-        ∙ ap (λ (cells : List ℤ). record { cells = cells; steps = c.machine.steps + length effects }) cells_next ∙ ap (λ (k : ℕ). record { cells = m.config.cells; steps = k }) steps_next
+        ap (state_at key) next ∙ ap (after_judgement key (state_at key n)) q.judged_so
+        ∙ ap (λ (s : JudgeState). after_judgement key s (Clean (done_in plan run i))) e.state
+        ∙ ap (λ (cells : List ℤ). record { cells = cells; steps = c.machine.steps + length effects }) cells_next
+        ∙ ap (λ (k : ℕ). record { cells = m.config.cells; steps = k }) steps_next
 
     gone_next : (j : ℕ) → j < n + 1 → goes_on (verdict_at key j) ≡ true
     gone_next j h = by (cases_lt j n)
@@ -154,7 +169,8 @@ module _ (key : EpochKey) (n : ℕ) (first : MachineState) (c : CommittedState) 
         by (inr hides) = inr hides
 
     -- The epoch goes on.
-    pub epoch_on : (more : Account) → Reports more (report_before plan first (i + 1)) → Watching plan first (i + 1) more.why more.views → InEpoch key (n + 1) first (one_more plan first c account e.progress turns before after m) more
+    pub epoch_on : (more : Account) → Reports more (report_before plan first (i + 1)) → Watching plan first (i + 1) more.why more.views →
+        InEpoch key (n + 1) first (one_more plan first c account e.progress turns before after m) more
     epoch_on more told watching = record {
       progress = advanced plan first c account e.progress turns before after m call more told watching;
       key_is = e.key_is;

@@ -15,8 +15,12 @@ use Rattle.dp_epoch.specs.Remade.{Remade}
 
 -- no step
 pub hears_none : (m n : MachineState) (v w : Viewed) → n ≡ m → w ≡ v → Hears m n v w
-hears_none m n v w same still until events later comes within =
-    (events, subst (λ (x : Viewed). Comes n until x.source events later) (sym still) (subst (λ (x : MachineState). Comes x until v.source events later) (sym same) comes), ap (after_all events) still)
+hears_none m n v w same still until events later comes within = (
+  events,
+  subst (λ (x : Viewed). Comes n until x.source events later) (sym still) (subst (λ (x : MachineState). Comes x until v.source events later)
+      (sym same) comes),
+  ap (after_all events) still,
+)
 
 -- one
 pub hears_step : (m n : MachineState) (seen : Sight) (cells : List ℕ) (v w : Viewed) → WatchedStep seen cells m n → w ≡ after_sight seen cells v → Hears m n v w

@@ -14,7 +14,7 @@ use Rattle.dp_semantics.specs.Verdict.{Follows}
 use Rattle.dp_theorem.proofs.Fitting.{fitting_closes, fitting_leads}
 use Rattle.dp_meaning.specs.declared.ends.Part.TheVariants as part
 use Rattle.dp_meaning.specs.MachineState.{MachineState, fuel_left, rest_of_run, part_from, part_of, from_region}
-use Rattle.dp_commit.specs.CommittedState.{CommittedState, ClosesOnce, Holds, region_run, steps_of_first}
+use Rattle.dp_commit.specs.CommittedState.{CommittedState, ClosesOnce, HoldsCommitted, region_run, steps_of_first}
 use Rattle.dp_commit.proofs.Going as going
 use Rattle.dp_commit.proofs.Lists.{get_at_seam}
 use Rattle.dp_commit.proofs.Parts.{run_begins}
@@ -46,12 +46,14 @@ closes_once plan first s i k here closing =
     ∙ (fitting_closes first.program plan s.fits first.input (fuel_left first) first.config s.stands i k here closing).unreached
 
 -- the machine behind a piece of the run stands in `main`
-pub stands_there : (plan : Plan) (first : MachineState) → RegionBegins plan first → (c : CommittedState) → Holds first c → StandsInMain first.program c.machine.config
+pub stands_there : (plan : Plan) (first : MachineState) → RegionBegins plan first → (c : CommittedState) → HoldsCommitted first c →
+    StandsInMain first.program c.machine.config
 stands_there plan first s c h =
     let begins = run_begins c.machine.program c.machine.input (fuel_left c.machine) c.machine.config in
     let made = steps_of_first (region_run first) c.region c.count in
     let here : slice_get (region_run first).configs made ≡ Some c.machine.config =
-    ap (λ (cs : List Config). slice_get cs made) h.piece.configs ∙ get_at_seam h.configs (rest_of_run c.machine).configs made c.machine.config begins.0 (sym h.piece.paired) begins.1 in
+    ap (λ (cs : List Config). slice_get cs made) h.piece.configs ∙ get_at_seam h.configs (rest_of_run c.machine).configs made c.machine.config begins.0
+    (sym h.piece.paired) begins.1 in
     stays_in_main first.program first.input s.tops (fuel_left first) made first.config c.machine.config s.stands here
 
 module _ (plan : Plan) (first : MachineState) (c : CommittedState) (account : Account) (g : Progress plan first c account) where
@@ -84,7 +86,8 @@ module _ (plan : Plan) (first : MachineState) (c : CommittedState) (account : Ac
   memory_is = g.holds.memory ∙ ap (λ (r : ℕ). memory_after run r c.count) g.region
 
   pub leads_here : has_ended run plan.region c.count ≡ true → is_closing run plan.region c.count ≡ false → Follows first.program plan.region run c.count made
-  leads_here ended going_on = fitting_leads first.program plan g.start.fits first.input (fuel_left first) first.config g.start.stands c.count made starts_here ended going_on
+  leads_here ended going_on =
+      fitting_leads first.program plan g.start.fits first.input (fuel_left first) first.config g.start.stands c.count made starts_here ended going_on
 
   pub once : ClosesOnce first c.region
   once = subst (ClosesOnce first) (sym g.region) (closes_once plan first g.start)

@@ -39,11 +39,13 @@ module _ (key : EpochKey) (n : ℕ) (first : MachineState) (c : CommittedState) 
 
   -- a judgement on the n-th packet of the epoch that begins with this memory
   abbrev judging : Program → List ℤ → ℕ → List ℤ → List ℤ → ℕ → Judgement
-  judging p input left cells base m = judge p key.plan left cells (passed (record { program = p; plan = key.plan; input = input; base = base }) (length key.plan.stages) m).packet
+  judging p input left cells base m =
+      judge p key.plan left cells (passed (record { program = p; plan = key.plan; input = input; base = base }) (length key.plan.stages) m).packet
 
   pub judgement_is : judgement_of key n ≡ judgement_at first.program key.plan first.input source key.first c.count k
   judgement_is =
-      let left : key.fuel - c.machine.steps ≡ source.fuel - k = omega (arith, e.key_is.fuel, steps_are key.plan first c account g, fuel_is first.program first.input (fuel_left first) first.config) in
+      let left : key.fuel - c.machine.steps ≡ source.fuel - k = omega
+      (arith, e.key_is.fuel, steps_are key.plan first c account g, fuel_is first.program first.input (fuel_left first) first.config) in
       let place : n ≡ c.count - key.first = omega (arith, e.place) in
       ap (judgement_in key n) e.state
       ∙ ap (λ (p : Program). judging p key.input (key.fuel - c.machine.steps) c.machine.config.cells key.base n) e.key_is.program
@@ -51,16 +53,19 @@ module _ (key : EpochKey) (n : ℕ) (first : MachineState) (c : CommittedState) 
       ∙ ap (λ (m : ℕ). judging first.program first.input m c.machine.config.cells key.base n) left
       ∙ ap (λ (cells : List ℤ). judging first.program first.input (source.fuel - k) cells key.base n) (memory_is key.plan first c account g)
       ∙ ap (λ (base : List ℤ). judging first.program first.input (source.fuel - k) (memory_after source key.plan.region c.count) base n) e.base
-      ∙ ap (judging first.program first.input (source.fuel - k) (memory_after source key.plan.region c.count) (memory_after source key.plan.region key.first)) place
+      ∙ ap (judging first.program first.input (source.fuel - k) (memory_after source key.plan.region c.count)
+      (memory_after source key.plan.region key.first)) place
 
   judged : Judged first.program key.plan first.input source key.first c.count k
-  judged = fitting_judges first.program key.plan g.start.fits first.input (fuel_left first) first.config g.start.stands key.first c.count k (omega (arith, e.place)) (starts_here key.plan first c account g) e.since
+  judged = fitting_judges first.program key.plan g.start.fits first.input (fuel_left first) first.config g.start.stands key.first c.count k
+      (omega (arith, e.place)) (starts_here key.plan first c account g) e.since
 
   -- it is clean in this epoch as it is in the region's own
   clean_same : is_clean first.program key.plan source began c.count ≡ is_clean first.program key.plan source key.first c.count
   clean_same = by e.begun
     where
-      by : (began ≡ key.first) ⊎ (hides_nothing first.program key.plan ≡ true) → is_clean first.program key.plan source began c.count ≡ is_clean first.program key.plan source key.first c.count
+      by : (began ≡ key.first) ⊎ (hides_nothing first.program key.plan ≡ true) → is_clean first.program key.plan source began c.count ≡ is_clean first.program
+          key.plan source key.first c.count
       by (inl same) = ap (λ (m : ℕ). is_clean first.program key.plan source m c.count) same
       by (inr hides) = clean_anywhere first.program key.plan hides source began key.first c.count
 
@@ -81,7 +86,13 @@ module _ (key : EpochKey) (n : ℕ) (first : MachineState) (c : CommittedState) 
       let told = clean_judged clean in
       let both : Clean agreed ≡ Clean (done_in key.plan source c.count) = sym is ∙ told in
       let same : agreed ≡ done_in key.plan source c.count = cc both in
-      record { clean = clean_same ∙ clean; since = clean; judged_so = told; alike = subst (λ (a : Agreed). SaysTheSame key (Commit (carried a)) (Commit v)) same gives }
+      record {
+        clean = clean_same ∙ clean;
+        since = clean;
+        judged_so = told;
+        alike = subst (λ (a : Agreed). SaysTheSame key (Commit (carried a))
+            (Commit v)) same gives;
+      }
   clean_by v Unclean is gives = absurd gives
 
   pub clean_case : (v : Carried) → SaysTheSame key (verdict_at key n) (Commit v) → IsClean v
@@ -92,7 +103,8 @@ module _ (key : EpochKey) (n : ℕ) (first : MachineState) (c : CommittedState) 
   not_clean false b is = refl
   not_clean true b is = let clash : Unclean ≡ Clean (done_in key.plan source c.count) = sym is ∙ clean_judged b in absurd (cc clash)
 
-  unclean_by : (why : ReportedCause) (j : Judgement) → judgement_of key n ≡ j → Again why ≡ verdict_by key n j → is_recovered first.program key.plan source c.count ≡ true
+  unclean_by : (why : ReportedCause) (j : Judgement) → judgement_of key n ≡ j → Again why ≡ verdict_by key n j →
+      is_recovered first.program key.plan source c.count ≡ true
   unclean_by why (Clean agreed) is gives = absurd (cc gives)
   unclean_by why Unclean is gives = ap not clean_same ∙ not_clean (is_clean first.program key.plan source key.first c.count) refl is
 

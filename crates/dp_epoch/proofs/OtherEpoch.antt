@@ -22,17 +22,18 @@ use Rattle.dp_run_plan.proofs.Alike.{clean_alike}
 use Rattle.dp_run_plan.specs.RunPlan.{RunsFor, hides_nothing}
 use Rattle.dp_epoch.specs.declared.account.Account.{Account}
 use Rattle.dp_epoch.specs.Accounts.{CountsClean, after_clean}
-use Rattle.dp_epoch.specs.Applied.{Applied, left_of}
+use Rattle.dp_epoch.specs.Applied.{Applied, steps_left}
 use Rattle.dp_epoch.specs.Followed.{IsFollowed, unlisted}
 use Rattle.dp_epoch.specs.InEpoch.{AtEpoch, InEpoch, ToBegin, key_here}
-use Rattle.dp_epoch.specs.Prints.{prints_of, to_come}
+use Rattle.dp_epoch.specs.Prints.{prints_of, prints_to_come}
 use Rattle.dp_epoch.specs.Progress.{Progress}
 use Rattle.dp_epoch.proofs.EpochBegins.{begins_epoch, epoch_here}
 use Rattle.dp_epoch.proofs.EpochLemmas.{epoch_goes, goes_ahead, left_here, may_commit, report_here, waits}
 use Rattle.dp_epoch.proofs.Judged.{IsClean, clean_case, clean_judged}
 
 -- how far a run under the other plan would have brought the region
-other_progress : (plan other : Plan) (first : MachineState) (c : CommittedState) (account : Account) → Progress plan first c account → RunsFor first.program plan other → fits_plan first.program other ≡ true →
+other_progress : (plan other : Plan) (first : MachineState) (c : CommittedState) (account : Account) → Progress plan first c account →
+    RunsFor first.program plan other → fits_plan first.program other ≡ true →
     Progress other first c (unlisted other first c.count)
 other_progress plan other first c account g runs fits = record {
   start = record {
@@ -52,11 +53,13 @@ other_progress plan other first c account g runs fits = record {
 }
 
 -- Where an epoch may begin, one of the other plan may.
-pub other_begins : (p : Program) (plan other : Plan) (input : List ℤ) (first : MachineState) (c : CommittedState) (account : Account) → ToBegin p plan input first c account → RunsFor p plan other → fits_plan p other ≡ true →
+pub other_begins : (p : Program) (plan other : Plan) (input : List ℤ) (first : MachineState) (c : CommittedState) (account : Account) →
+    ToBegin p plan input first c account → RunsFor p plan other → fits_plan p other ≡ true →
     ToBegin p other input first c (unlisted other first c.count)
 other_begins p plan other input first c account b runs fits = record {
   at_epoch = record {
-    progress = other_progress plan other first c account b.at_epoch.progress (subst (λ (q : Program). RunsFor q plan other) (sym b.program_is) runs) (ap (λ (q : Program). fits_plan q other) b.program_is ∙ fits);
+    progress = other_progress plan other first c account b.at_epoch.progress (subst (λ (q : Program). RunsFor q plan other) (sym b.program_is) runs)
+        (ap (λ (q : Program). fits_plan q other) b.program_is ∙ fits);
     fresh = inr (ap (λ (q : Program). hides_nothing q other) b.program_is ∙ runs.other_hides);
   };
   program_is = b.program_is;
@@ -64,24 +67,29 @@ other_begins p plan other input first c account b runs fits = record {
 }
 
 -- .. whose verdicts are followed from here.
-pub begin_following : (p : Program) (plan other : Plan) (input : List ℤ) (first : MachineState) (c : CommittedState) (account : Account) → ToBegin p plan input first c account → RunsFor p plan other → fits_plan p other ≡ true →
+pub begin_following : (p : Program) (plan other : Plan) (input : List ℤ) (first : MachineState) (c : CommittedState) (account : Account) →
+    ToBegin p plan input first c account → RunsFor p plan other → fits_plan p other ≡ true →
     IsFollowed plan (key_here p other input c) 0 first c account
 begin_following p plan other input first c account b runs fits = record {
   progress = b.at_epoch.progress;
   runs = subst (λ (q : Program). RunsFor q plan other) (sym b.program_is) runs;
-  other = epoch_here (key_here p other input c) 0 first c (unlisted other first c.count) (record { first = refl; base = refl; steps = refl; fuel = refl; none = refl }) (other_begins p plan other input first c account b runs fits);
+  other = epoch_here (key_here p other input c) 0 first c (unlisted other first c.count)
+      (record { first = refl; base = refl; steps = refl; fuel = refl; none = refl }) (other_begins p plan other input first c account b runs fits);
 }
 
 -- .. and it may be left at each iteration.
-pub leaves_followed : (plan : Plan) (key : EpochKey) (n : ℕ) (first : MachineState) (c : CommittedState) (account : Account) → IsFollowed plan key n first c account → AtEpoch plan first c account
+pub leaves_followed : (plan : Plan) (key : EpochKey) (n : ℕ) (first : MachineState) (c : CommittedState) (account : Account) →
+    IsFollowed plan key n first c account → AtEpoch plan first c account
 leaves_followed plan key n first c account f = record { progress = f.progress; fresh = inr f.runs.hides }
 
 -- what is carried says the same as this, in the memory of this region
 abbrev Said : ℕ → Program → Carried → Carried → Type 0
 Said r p a v =
-    (v.prints ≡ a.prints) × (v.steps ≡ a.steps) × (v.closing ≡ a.closing) × ((cells : List ℤ) → clear_locals r p.vars (with_stores v.stores cells) ≡ clear_locals r p.vars (with_stores a.stores cells))
+    (v.prints ≡ a.prints) × (v.steps ≡ a.steps) × (v.closing ≡ a.closing)
+    × ((cells : List ℤ) → clear_locals r p.vars (with_stores v.stores cells) ≡ clear_locals r p.vars (with_stores a.stores cells))
 
-module _ (plan : Plan) (key : EpochKey) (n : ℕ) (first : MachineState) (c : CommittedState) (account : Account) (f : IsFollowed plan key n first c account) where
+module _ (plan : Plan) (key : EpochKey) (n : ℕ) (first : MachineState) (c : CommittedState) (account : Account)
+    (f : IsFollowed plan key n first c account) where
   abbrev run : Run
   run = region_run first
 
@@ -132,14 +140,15 @@ module _ (plan : Plan) (key : EpochKey) (n : ℕ) (first : MachineState) (c : Co
     pub may_follow : CarriesNext c v
     may_follow = may_commit own 0 first c account here v own_gives
 
-    pub followed_left : 0 < left_of c
+    pub followed_left : 0 < steps_left c
     followed_left = left_here own 0 first c account here v own_gives
 
     pub followed_waits : (waiting after : List ℤ) → after ≡ waiting ++ v.prints → after ≡ waiting ++ prints_of plan first c.count
     followed_waits = waits own 0 first c account here v own_gives
 
     module _ (new : CommittedState) (a : Applied v c new) where
-      pub followed_ahead : (waiting after : List ℤ) → after ≡ waiting ++ v.prints → to_come plan first waiting c.count ≡ to_come plan first after new.count
+      pub followed_ahead : (waiting after : List ℤ) → after ≡ waiting ++ v.prints → prints_to_come plan first waiting c.count ≡ prints_to_come plan
+          first after new.count
       followed_ahead = goes_ahead own 0 first c account here v own_gives new a
 
       -- the other plan's epoch goes on, in what its own run would tell
@@ -153,5 +162,6 @@ module _ (plan : Plan) (key : EpochKey) (n : ℕ) (first : MachineState) (c : Co
       followed_on more counted = record {
         progress = (epoch_goes own 0 first c account here v own_gives new a more counted going).progress;
         runs = f.runs;
-        other = subst (InEpoch key (n + 1) first new) (ap (λ (r : RegionReport). record { report = r; why = false; views = None }) other_on.progress.report_is) other_on;
+        other = subst (InEpoch key (n + 1) first new) (ap (λ (r : RegionReport). record { report = r; why = false; views = None })
+            other_on.progress.report_is) other_on;
       }

@@ -1,5 +1,6 @@
 -- The events of an iteration that is executed again, as the stages see them.
-use Rattle.std.proofs.Common.{◌≡◌, ◌⊎◌, inl, inr, refl, sym, ap, ◌∙◌, subst, ℕ, suc, ◌+◌, Bool, true, false, ◌||◌, is_some, length, List, [], ◌∷◌, ℤ, Option, Some, None, arith}
+use Rattle.std.proofs.Common.{◌≡◌, ◌⊎◌, inl, inr, refl, sym, ap, ◌∙◌, subst, ℕ, suc, ◌+◌, Bool, true, false, ◌||◌, is_some, length, List, [], ◌∷◌, ℤ, Option}
+use Rattle.std.proofs.Common.{Some, None, arith}
 use Rattle.dp_base.specs.declared.End.TheVariants as how
 use Rattle.dp_tree.specs.Step.{Event}
 use Rattle.dp_tree.specs.Trace.{Run}
@@ -34,14 +35,16 @@ or_true : (a b : Bool) → b ≡ true → (a || b) ≡ true
 or_true true b e = refl
 or_true false b e = e
 
-module _ (plan : Plan) (first : MachineState) (c : CommittedState) (account : Account) (g : Progress plan first c account) (new : CommittedState) (printed : List ℤ) where
+module _ (plan : Plan) (first : MachineState) (c : CommittedState) (account : Account) (g : Progress plan first c account) (new : CommittedState)
+    (printed : List ℤ) where
   abbrev run : Run
   run = region_run first
 
   -- the next iteration comes
   module _ (s : Remade c new printed iter_end.Next) where
     next_events : iteration run plan.region c.count ≡ s.call.events
-    next_events = ap (λ (r : ℕ). iteration run r c.count) (sym g.region) ∙ (held_next first c g.holds g.is_open new.machine s.turns [] printed s.call).iteration_is
+    next_events = ap (λ (r : ℕ). iteration run r c.count) (sym g.region)
+        ∙ (held_next first c g.holds g.is_open new.machine s.turns [] printed s.call).iteration_is
 
     pub going_on : is_closing (region_run first) plan.region c.count ≡ false
     going_on = ap closes next_events ∙ ap (λ (o : Option ℕ). has_closed o s.call.events) (sym g.is_open.between) ∙ s.call.stops.not_closed
@@ -50,7 +53,8 @@ module _ (plan : Plan) (first : MachineState) (c : CommittedState) (account : Ac
     starts_next =
         let held = (held_next first c g.holds g.is_open new.machine s.turns [] printed s.call).held in
         let this : suc c.count ≡ c.count + 1 = omega arith in
-        ap (start run plan.region) this ∙ ap (λ (r : ℕ). start run r (c.count + 1)) (sym g.region) ∙ (rw (on_region c.region new.machine.config s.call.stops.head) at held.reached)
+        ap (start run plan.region) this ∙ ap (λ (r : ℕ). start run r (c.count + 1)) (sym g.region)
+        ∙ (rw (on_region c.region new.machine.config s.call.stops.head) at held.reached)
 
     pub ended_next : has_ended (region_run first) plan.region c.count ≡ true
     ended_next = ap (λ (o : Option ℕ). is_some o || is_closing run plan.region c.count) starts_next
@@ -61,23 +65,29 @@ module _ (plan : Plan) (first : MachineState) (c : CommittedState) (account : Ac
   events_made (Some region_end.Closed) s = done.events_are plan first c account g new.machine s.turns [] printed s.call
   events_made (Some (region_end.Fault fault)) s =
       iteration_same plan first c account g
-      ∙ stopped.iteration_is plan first c account g new.machine [] printed s.call.events s.call.configs s.call.moved s.call.heads s.call.stops.0 s.call.spoiled (fuel_left new.machine) (how.Fault fault) s.call.stops.2.ends
+      ∙ stopped.iteration_is plan first c account g new.machine [] printed s.call.events s.call.configs s.call.moved s.call.heads s.call.stops.0 s.call.spoiled
+      (fuel_left new.machine) (how.Fault fault) s.call.stops.2.ends
   events_made (Some region_end.Fuel) s =
       iteration_same plan first c account g
-      ∙ stopped.iteration_is plan first c account g new.machine [] printed s.call.events s.call.configs s.call.moved s.call.heads s.call.stops.0 s.call.spoiled 0 how.Fuel s.call.stops.1.ends
+      ∙ stopped.iteration_is plan first c account g new.machine [] printed s.call.events s.call.configs s.call.moved s.call.heads s.call.stops.0 s.call.spoiled
+      0 how.Fuel s.call.stops.1.ends
 
   ahead : (end : Option RegionEnd) (s : Remade c new printed (iteration_end end)) → run.end ≡ (rest_of_run new.machine).end
   ahead end s = g.holds.piece.end ∙ s.call.moved.run.end
 
   -- it has ended, or the run ends so in it
-  pub ends_so : (end : Option RegionEnd) → Remade c new printed (iteration_end end) → (has_ended (region_run first) plan.region c.count ≡ true) ⊎ ((region_run first).end ≡ run_end end)
+  pub ends_so : (end : Option RegionEnd) → Remade c new printed (iteration_end end) → (has_ended (region_run first) plan.region c.count ≡ true)
+      ⊎ ((region_run first).end ≡ run_end end)
   ends_so None s = inl (ended_next s)
-  ends_so (Some region_end.Closed) s = inl (or_true (is_some (start run plan.region (suc c.count))) (is_closing run plan.region c.count) (done.closing_here plan first c account g new.machine s.turns [] printed s.call))
+  ends_so (Some region_end.Closed) s =
+      inl (or_true (is_some (start run plan.region (suc c.count))) (is_closing run plan.region c.count)
+      (done.closing_here plan first c account g new.machine s.turns [] printed s.call))
   ends_so (Some (region_end.Fault fault)) s = inr (ahead (Some (region_end.Fault fault)) s ∙ ap (λ (x : Run). x.end) s.call.stops.2.ends)
   ends_so (Some region_end.Fuel) s = inr (ahead (Some region_end.Fuel) s ∙ ap (λ (x : Run). x.end) s.call.stops.1.ends)
 
   -- What the stages see behind it is what they see behind its events.
-  pub heard_all : (end : Option RegionEnd) (s : Remade c new printed (iteration_end end)) (v w : Viewed) → KeptBefore first.program plan (region_run first) (epoch first.program plan (region_run first) c.count) c.count v → Hears c.machine new.machine v w →
+  pub heard_all : (end : Option RegionEnd) (s : Remade c new printed (iteration_end end)) (v w : Viewed) →
+      KeptBefore first.program plan (region_run first) (epoch first.program plan (region_run first) c.count) c.count v → Hears c.machine new.machine v w →
       w ≡ after_all (iteration (region_run first) plan.region c.count) v
   heard_all end s v w kept hears =
       let comes : Comes c.machine new.machine.steps v.source s.call.events (rest_of_run new.machine).trace = record {

@@ -17,10 +17,12 @@ pub record SoFar (old now : CommittedState) (printed : List ℤ) : Type 0 where
   pub made : ((now ≡ old) × (printed ≡ [])) ⊎ Remade old now printed Going
 
 -- two calls as one
-joined : (old mid new : CommittedState) (first second : List ℤ) (end : IterEnd) → Remade old mid first Going → Remade mid new second end → Remade old new (first ++ second) end
+joined : (old mid new : CommittedState) (first second : List ℤ) (end : IterEnd) → Remade old mid first Going → Remade mid new second end →
+    Remade old new (first ++ second) end
 joined old mid new first second end a b =
     let same : mid.region ≡ old.region = ap (λ (s : CommittedState). s.region) a.rest in
-    let call : IterationRun old.region b.turns mid.machine new.machine [] second end = subst (λ (r : ℕ). IterationRun r b.turns mid.machine new.machine [] second end) same b.call in
+    let call : IterationRun old.region b.turns mid.machine new.machine [] second end = subst (λ (r : ℕ). IterationRun r b.turns mid.machine new.machine []
+    second end) same b.call in
     record {
       turns = a.turns + b.turns;
       some = omega (arith, a.some);
@@ -31,7 +33,8 @@ joined old mid new first second end a b =
 -- An iteration that goes on is under way.
 goes_on_at : (mid new : CommittedState) (printed : List ℤ) → Remade mid new printed Going → next_part new.machine ≡ Region new.region
 goes_on_at mid new printed s =
-    ap (λ (o : Option ℕ). part_at o new.machine.config.to_do) (s.call.stops.0.current ∙ under_way mid.region mid.machine.current s.call.events (omega (arith, s.some, s.call.stops.2)))
+    ap (λ (o : Option ℕ). part_at o new.machine.config.to_do) (s.call.stops.0.current ∙ under_way mid.region mid.machine.current s.call.events
+    (omega (arith, s.some, s.call.stops.2)))
     ∙ ap (λ (r : ℕ). Region r) (sym (ap (λ (t : CommittedState). t.region) s.rest))
 
 module _ (old mid : CommittedState) (first : List ℤ) (h : SoFar old mid first) where
@@ -57,9 +60,12 @@ module _ (old mid : CommittedState) (first : List ℤ) (h : SoFar old mid first)
   may_print second (some new end s) = some new end (remade new second end s)
 
 -- Where it goes on, there is less fuel left.
-pub remade_falls : (mid new : CommittedState) (printed : List ℤ) → Remade mid new printed Going → new.machine.fuel - new.machine.steps < mid.machine.fuel - mid.machine.steps
+pub remade_falls : (mid new : CommittedState) (printed : List ℤ) → Remade mid new printed Going →
+    new.machine.fuel - new.machine.steps < mid.machine.fuel - mid.machine.steps
 remade_falls mid new printed s = omega (arith, s.some, s.call.moved.steps, s.call.moved.fuel, s.call.stops.1, s.call.stops.2)
 
 -- one call of the committed memory
-pub recovers_for : (turns : ℕ) (old new : CommittedState) (before after : List ℤ) (end : IterEnd) → 0 < turns → (q : RecoversFor turns old new before after end) → Remade old new (prints q.call.events) end
-recovers_for turns old new before after end h q = record { turns = turns; some = h; call = alone old.region turns old.machine new.machine before after end q.call; rest = q.rest }
+pub recovers_for : (turns : ℕ) (old new : CommittedState) (before after : List ℤ) (end : IterEnd) → 0 < turns →
+    (q : RecoversFor turns old new before after end) → Remade old new (prints q.call.events) end
+recovers_for turns old new before after end h q =
+    record { turns = turns; some = h; call = alone old.region turns old.machine new.machine before after end q.call; rest = q.rest }

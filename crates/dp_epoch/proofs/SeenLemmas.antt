@@ -1,5 +1,6 @@
 -- What the stages see where the next iteration begins, and the cause of one that is executed again.
-use Rattle.std.proofs.Common.{◌≡◌, ◌⊎◌, inl, inr, refl, sym, ap, ◌∙◌, subst, ℕ, suc, Bool, true, false, ◌&&◌, if◌then◌else◌, is_none, is_some, List, Option, Some, None}
+use Rattle.std.proofs.Common.{◌≡◌, ◌⊎◌, inl, inr, refl, sym, ap, ◌∙◌, subst, ℕ, suc, Bool, true, false, ◌&&◌, if◌then◌else◌, is_none, is_some, List, Option}
+use Rattle.std.proofs.Common.{Some, None}
 use Rattle.std.proofs.lemmas.Bool.{not-true}
 use Rattle.std.specs.Option.{option_map}
 use Rattle.dp_base.specs.declared.Cause.{Cause}
@@ -14,9 +15,9 @@ use Rattle.dp_semantics.specs.Recovery.{epoch, is_recovered}
 use Rattle.dp_theorem.proofs.Fitting.{accepted}
 use Rattle.dp_meaning.specs.MachineState.{MachineState, fuel_left}
 use Rattle.dp_commit.specs.CommittedState.{CommittedState, region_run, steps_of_first}
-use Rattle.dp_view.specs.Following.{KeptBefore, Tells, found_or_end}
+use Rattle.dp_view.specs.Following.{KeptBefore, TellsClean, found_or_end}
 use Rattle.dp_view.specs.Heard.{LoadsFrom}
-use Rattle.dp_view.specs.Viewed.{Viewed, after_all, anew, onward, settled}
+use Rattle.dp_view.specs.Viewed.{Viewed, after_all, anew, next_in_epoch, settled}
 use Rattle.dp_view.proofs.FollowLemmas.{views_tell}
 use Rattle.dp_view.proofs.LoadLemmas.{views_follow}
 use Rattle.dp_epoch.specs.declared.account.Account.{Account}
@@ -54,29 +55,35 @@ module _ (plan : Plan) (first : MachineState) (c : CommittedState) (account : Ac
   abbrev events : List Event
   events = iteration (region_run first) plan.region c.count
 
-  told : Tells first.program plan (region_run first) (epoch first.program plan (region_run first) c.count) c.count (after_all (iteration (region_run first) plan.region c.count) v)
-  told = views_tell (accepted first.program plan g.start.fits) first.input (fuel_left first) first.config g.start.stands e i (steps_of_first (region_run first) plan.region c.count) (starts_here plan first c account g) v kept
+  told : TellsClean first.program plan (region_run first) (epoch first.program plan (region_run first) c.count) c.count
+      (after_all (iteration (region_run first) plan.region c.count) v)
+  told = views_tell (accepted first.program plan g.start.fits) first.input (fuel_left first) first.config g.start.stands e i
+      (steps_of_first (region_run first) plan.region c.count) (starts_here plan first c account g) v kept
 
   pub loads : LoadsFrom v.source (iteration (region_run first) plan.region c.count)
-  loads = views_follow (accepted first.program plan g.start.fits) first.input (fuel_left first) first.config g.start.stands e i (steps_of_first (region_run first) plan.region c.count) (starts_here plan first c account g) v kept
+  loads = views_follow (accepted first.program plan g.start.fits) first.input (fuel_left first) first.config g.start.stands e i
+      (steps_of_first (region_run first) plan.region c.count) (starts_here plan first c account g) v kept
 
   found_as : (b : Bool) → has_ended run plan.region i ≡ true → is_clean p plan run e i ≡ b → is_none (after_all events v).found ≡ b
   found_as b ended clean = sym (ap (λ (t : Bool). t && is_none (after_all events v).found) ended) ∙ sym told.clean ∙ clean
 
   -- Behind a clean iteration they go on in the same epoch.
-  pub seen_next : is_clean first.program plan (region_run first) (epoch first.program plan (region_run first) c.count) c.count ≡ true → has_ended (region_run first) plan.region c.count ≡ true → is_closing (region_run first) plan.region c.count ≡ false →
+  pub seen_next : is_clean first.program plan (region_run first) (epoch first.program plan (region_run first) c.count) c.count ≡ true →
+      has_ended (region_run first) plan.region c.count ≡ true → is_closing (region_run first) plan.region c.count ≡ false →
       (w : Viewed) → w ≡ after_all (iteration (region_run first) plan.region c.count) v →
       KeptBefore first.program plan (region_run first) (epoch first.program plan (region_run first) (suc c.count)) (suc c.count) (seen_clean w)
   seen_next clean ended going w is =
       let none : is_none (after_all events v).found ≡ true = found_as true ended clean in
-      let next : KeptBefore p plan run e (suc i) (onward (settled (after_all events v))) =
-      subst (λ (b : Bool). KeptBefore p plan run (if b then e else suc i) (suc i) (if b then onward (settled (after_all events v)) else anew (settled (after_all events v)))) none (told.next ended going) in
+      let next : KeptBefore p plan run e (suc i) (next_in_epoch (settled (after_all events v))) =
+      subst (λ (b : Bool). KeptBefore p plan run (if b then e else suc i) (suc i) (if b then next_in_epoch (settled (after_all events v))
+      else anew (settled (after_all events v)))) none (told.next ended going) in
       let same : epoch p plan run (suc i) ≡ e = ap (λ (b : Bool). if b then e else suc i) clean in
       subst (λ (d : ℕ). KeptBefore p plan run d (suc i) (seen_clean w)) (sym same)
       (subst (λ (x : Viewed). KeptBefore p plan run e (suc i) (seen_clean x)) (sym is) next)
 
   -- Behind one that is executed again they see what the source has.
-  module _ (again : is_recovered first.program plan (region_run first) c.count ≡ true) (w : Viewed) (is : w ≡ after_all (iteration (region_run first) plan.region c.count) v) where
+  module _ (again : is_recovered first.program plan (region_run first) c.count ≡ true) (w : Viewed)
+      (is : w ≡ after_all (iteration (region_run first) plan.region c.count) v) where
     unclean : is_clean p plan run e i ≡ false
     unclean = not-true (is_clean p plan run e i) again
 
@@ -85,13 +92,15 @@ module _ (plan : Plan) (first : MachineState) (c : CommittedState) (account : Ac
     seen_anew ended going =
         let some : is_none (after_all events v).found ≡ false = found_as false ended unclean in
         let next : KeptBefore p plan run (suc i) (suc i) (anew (settled (after_all events v))) =
-        subst (λ (b : Bool). KeptBefore p plan run (if b then e else suc i) (suc i) (if b then onward (settled (after_all events v)) else anew (settled (after_all events v)))) some (told.next ended going) in
+        subst (λ (b : Bool). KeptBefore p plan run (if b then e else suc i) (suc i) (if b then next_in_epoch (settled (after_all events v))
+        else anew (settled (after_all events v)))) some (told.next ended going) in
         let same : epoch p plan run (suc i) ≡ suc i = ap (λ (b : Bool). if b then e else suc i) unclean in
         subst (λ (d : ℕ). KeptBefore p plan run d (suc i) (anew (settled w))) (sym same)
         (subst (λ (x : Viewed). KeptBefore p plan run (suc i) (suc i) (anew (settled x))) (sym is) next)
 
     -- The cause is told by what is found, or by how the run ends.
-    pub cause_found : (end : End) → (has_ended (region_run first) plan.region c.count ≡ true) ⊎ ((region_run first).end ≡ end) → found_or_end w.found end ≡ cause_of plan first c.count
+    pub cause_found : (end : End) → (has_ended (region_run first) plan.region c.count ≡ true) ⊎ ((region_run first).end ≡ end) →
+        found_or_end w.found end ≡ cause_of plan first c.count
     cause_found end (inl ended) =
         ap (λ (x : Viewed). found_or_end x.found end) is ∙ is_some_found (after_all events v).found end run.end (found_as false ended unclean) ∙ told.cause
     cause_found end (inr same) = ap (λ (x : Viewed). found_or_end x.found end) is ∙ ap (found_or_end (after_all events v).found) (sym same) ∙ told.cause

@@ -34,7 +34,8 @@ planned_fits p plan q =
     })
 
 -- So the plan fits, and the region may begin.
-pub begins_there : (p : Program) (plan : Plan) (input : List ℤ) (first : MachineState) → IsPlanned p plan → RegionStart p plan input first → RegionBegins plan first
+pub begins_there : (p : Program) (plan : Plan) (input : List ℤ) (first : MachineState) → IsPlanned p plan → RegionStart p plan input first →
+    RegionBegins plan first
 begins_there p plan input first q s = record {
   fits = ap (λ (x : Program). fits_plan x plan) s.program_is ∙ planned_fits p plan q;
   tops = ap (λ (x : Program). regions_in_order 1 x.main) s.program_is ∙ q.inlined.regions;
@@ -45,18 +46,22 @@ begins_there p plan input first q s = record {
 }
 
 -- nothing is committed yet
-pub region_starts : (plan : Plan) (first : MachineState) → RegionBegins plan first → (account : Account) → Reports account (report_before plan first 0) → Watching plan first 0 account.why account.views → AtEpoch plan first (record { machine = first; region = plan.region; count = 0 }) account
+pub region_starts : (plan : Plan) (first : MachineState) → RegionBegins plan first → (account : Account) → Reports account (report_before plan first 0) →
+    Watching plan first 0 account.why account.views → AtEpoch plan first (record { machine = first; region = plan.region; count = 0 }) account
 region_starts plan first s account is watching =
     let begins = run_begins first.program first.input (fuel_left first) first.config in
-    let there : stands_at_head plan.region first.config ≡ true = on_region plan.region first.config (sym (ap (λ k. part_at k first.config.to_do) s.between) ∙ s.next) in
-    let starts_at : start (region_run first) plan.region 0 ≡ Some 0 = ap (λ (cs : List Config). slice_get (places (stands_at_head plan.region) 0 cs) 0) begins.1 ∙ (rw there) in
+    let there : stands_at_head plan.region first.config ≡ true = on_region plan.region first.config
+    (sym (ap (λ k. part_at k first.config.to_do) s.between) ∙ s.next) in
+    let starts_at : start (region_run first) plan.region 0 ≡ Some 0 = ap (λ (cs : List Config). slice_get (places (stands_at_head plan.region) 0 cs) 0)
+    begins.1 ∙ (rw there) in
     record {
       progress = record {
         start = s;
         region = refl;
         is_open = record { next = s.next; between = s.between; sound = s.sound };
         holds = record {
-          memory = sym (ap (λ (o : Option ℕ). memory_from (region_run first) o (start (region_run first) plan.region (0 - 1))) starts_at ∙ ap (λ (cs : List Config). cells_in (slice_get cs 0)) begins.1);
+          memory = sym (ap (λ (o : Option ℕ). memory_from (region_run first) o (start (region_run first) plan.region (0 - 1))) starts_at
+              ∙ ap (λ (cs : List Config). cells_in (slice_get cs 0)) begins.1);
           steps = omega arith;
           configs = [];
           piece = record { trace = refl; configs = refl; end = refl; fuel = omega arith; paired = refl };

@@ -13,7 +13,7 @@ use Rattle.dp_meaning.specs.MachineState.{MachineState}
 use Rattle.dp_commit.specs.CommittedState.{CommittedState}
 use Rattle.dp_view.specs.Following.{found_or_end}
 use Rattle.dp_view.specs.Heard.{Hears}
-use Rattle.dp_view.specs.Viewed.{Viewed, anew, begun, onward, settled}
+use Rattle.dp_view.specs.Viewed.{Viewed, anew, begun, next_in_epoch, settled}
 use Rattle.dp_epoch.specs.declared.account.Account.{Account}
 use Rattle.dp_epoch.specs.declared.ends.RegionEnd.{RegionEnd}
 use Rattle.dp_epoch.specs.declared.ends.RegionEnd.TheVariants.{Closed, Fault, Fuel}
@@ -42,7 +42,7 @@ begun_account p plan cells why = record {
 
 -- what the stages see where the iteration behind a clean one begins
 abbrev pub seen_clean : Viewed → Viewed
-seen_clean v = onward (settled v)
+seen_clean v = next_in_epoch (settled v)
 
 -- .. and where a new epoch begins behind one that was executed again
 abbrev pub seen_again : Viewed → Viewed
@@ -70,17 +70,18 @@ Explains true again told cause = length again < LISTED → told ≡ Some cause
 Explains false again told cause = told ≡ None
 
 -- the cause in a list, if one is told
-abbrev pub listed : Option Cause → List Cause
-listed None = []
-listed (Some cause) = cause ∷ []
+abbrev pub cause_listed : Option Cause → List Cause
+cause_listed None = []
+cause_listed (Some cause) = cause ∷ []
 
 -- what is kept for causes, where so many iterations are listed
 abbrev pub views_left : ℕ → Option Viewed → Option Viewed
-views_left listed views = if nat_lt listed LISTED then views else None
+views_left cause_listed views = if nat_lt cause_listed LISTED then views else None
 
 -- The iteration of this number was counted, whose re-execution ended so.
 pub record CountsAgain (number : ℕ) (end : Option RegionEnd) (old new : Account) : Type 0 where
-  pub report : (region n : ℕ) (again : List ℕ) (cause_is : ℕ → Cause) → old.report ≡ told_when old.why (report_of region n again cause_is) → Explains old.why again (cause_told old.views end) (cause_is number) →
+  pub report : (region n : ℕ) (again : List ℕ) (cause_is : ℕ → Cause) → old.report ≡ told_when old.why (report_of region n again cause_is) →
+      Explains old.why again (cause_told old.views end) (cause_is number) →
       new.report ≡ told_when new.why (report_of region (number + 1) (again ++ number ∷ []) cause_is)
   pub why : new.why ≡ old.why
   pub views : new.views ≡ views_left (length new.report.recovered) (option_map seen_again old.views)

@@ -10,9 +10,9 @@ use Rattle.dp_epoch.specs.declared.following.Followed.{Followed}
 use Rattle.dp_epoch.specs.declared.following.Followed.TheVariants.{Committed, Left}
 use Rattle.dp_epoch.specs.declared.ledger.Ledger.{Ledger}
 use Rattle.dp_epoch.specs.Accounts.{told_when}
-use Rattle.dp_epoch.specs.Applied.{HasRoom, left_of}
+use Rattle.dp_epoch.specs.Applied.{HasRoomForVerdicts, steps_left}
 use Rattle.dp_epoch.specs.InEpoch.{AtEpoch, InEpoch}
-use Rattle.dp_epoch.specs.Prints.{prints_of, to_come}
+use Rattle.dp_epoch.specs.Prints.{prints_of, prints_to_come}
 use Rattle.dp_epoch.specs.Progress.{Progress, report_before}
 
 -- what a run under the plan would tell of the first n iterations, where causes aren't asked for
@@ -35,19 +35,20 @@ abbrev pub printed_followed : Plan → MachineState → ℕ → Followed → Lis
 printed_followed plan first i Committed = prints_of plan first i
 printed_followed plan first i Left = []
 
--- The verdict after n of the other plan's epoch was taken, where a stage of the region's plan may have so many words: an iteration that is clean under both plans
+-- The verdict after n of the other plan's epoch was taken, where a stage of the region's plan may have so many words: an iteration that is clean under both
+-- plans
 -- is committed and counted, and its prints wait; any other changes nothing.
-pub record Follows (words : ℕ) (key : EpochKey) (n : ℕ) (old new : Ledger) (followed : Followed) (tally tally_now : ℕ) : Type 0 where
+pub record FollowsVerdict (words : ℕ) (key : EpochKey) (n : ℕ) (old new : Ledger) (followed : Followed) (tally tally_now : ℕ) : Type 0 where
   pub stands : (plan : Plan) (first : MachineState) → IsFollowed plan key n first old.committed old.account → words ≡ plan.words →
       StandsFollowed plan key n first new.committed new.account followed
   pub prints : (plan : Plan) (first : MachineState) → IsFollowed plan key n first old.committed old.account → words ≡ plan.words →
       new.waiting ≡ old.waiting ++ printed_followed plan first old.committed.count followed
   pub ahead : (plan : Plan) (first : MachineState) → IsFollowed plan key n first old.committed old.account → words ≡ plan.words →
-      to_come plan first old.waiting old.committed.count ≡ to_come plan first new.waiting new.committed.count
+      prints_to_come plan first old.waiting old.committed.count ≡ prints_to_come plan first new.waiting new.committed.count
   pub kept : followed ≡ Left → (new ≡ old) × (tally_now ≡ tally)
   pub report : new.account.report ≡ record old.account.report { iterations = new.committed.count }
   pub why : new.account.why ≡ old.account.why
   pub counted : tally_now + old.committed.count ≡ tally + new.committed.count
-  pub room : HasRoom tally_now new.committed
-  pub left : left_of new.committed ≤ left_of old.committed
-  pub falls : followed ≡ Committed → left_of new.committed < left_of old.committed
+  pub room : HasRoomForVerdicts tally_now new.committed
+  pub left : steps_left new.committed ≤ steps_left old.committed
+  pub falls : followed ≡ Committed → steps_left new.committed < steps_left old.committed

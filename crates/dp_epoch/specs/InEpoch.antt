@@ -16,7 +16,7 @@ use Rattle.dp_epoch.specs.declared.ends.EpochEnd.{EpochEnd}
 use Rattle.dp_epoch.specs.declared.ends.EpochEnd.TheVariants.{Closed, Left, Unclean}
 use Rattle.dp_epoch.specs.declared.ends.RegionEnd.{RegionEnd}
 use Rattle.dp_epoch.specs.declared.ends.RegionEnd.TheVariants as region_end
-use Rattle.dp_epoch.specs.Prints.{to_come}
+use Rattle.dp_epoch.specs.Prints.{prints_to_come}
 use Rattle.dp_epoch.specs.Progress.{Progress, RegionDone}
 
 -- the key is that of the region's program, input and fuel
@@ -59,8 +59,8 @@ EpochEnds plan first c account Left = AtEpoch plan first c account
 -- what is left to be written at the epoch's end
 abbrev pub left_by_epoch : Plan → MachineState → List ℤ → ℕ → EpochEnd → List ℤ
 left_by_epoch plan first waiting n Closed = waiting
-left_by_epoch plan first waiting n Unclean = to_come plan first waiting n
-left_by_epoch plan first waiting n Left = to_come plan first waiting n
+left_by_epoch plan first waiting n Unclean = prints_to_come plan first waiting n
+left_by_epoch plan first waiting n Left = prints_to_come plan first waiting n
 
 -- .. in a run of this program on this input
 pub record ToBegin (p : Program) (plan : Plan) (input : List ℤ) (first : MachineState) (c : CommittedState) (account : Account) : Type 0 where
@@ -78,7 +78,8 @@ pub record BeginsAt (key : EpochKey) (given : ℕ) (c : CommittedState) : Type 0
 
 -- what the verdicts depend on of the epoch that begins behind what is committed, in a run of this program on this input
 abbrev pub key_here : Program → Plan → List ℤ → CommittedState → EpochKey
-key_here p plan input c = record { program = p; plan = plan; input = input; first = c.count; base = c.machine.config.cells; steps = c.machine.steps; fuel = c.machine.fuel }
+key_here p plan input c =
+    record { program = p; plan = plan; input = input; first = c.count; base = c.machine.config.cells; steps = c.machine.steps; fuel = c.machine.fuel }
 
 -- how the re-execution of the iteration that broke an epoch comes out: a new epoch is to begin, or the region has ended
 abbrev pub AfterRecovery : Plan → MachineState → CommittedState → Account → Option RegionEnd → Type 0
@@ -87,5 +88,5 @@ AfterRecovery plan first c account (Some end) = RegionDone plan first c account 
 
 -- .. and what is left to be written then
 abbrev pub left_by_recovery : Plan → MachineState → List ℤ → ℕ → Option RegionEnd → List ℤ
-left_by_recovery plan first waiting n None = to_come plan first waiting n
+left_by_recovery plan first waiting n None = prints_to_come plan first waiting n
 left_by_recovery plan first waiting n (Some end) = waiting

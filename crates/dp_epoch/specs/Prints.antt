@@ -13,8 +13,10 @@ prints_of plan first n = prints (iteration (region_run first) plan.region n)
 
 -- what the region's iterations from the n-th on print
 abbrev pub prints_from : Plan → MachineState → ℕ → List ℤ
-prints_from plan first n = prints (drop (steps_of_first (region_run first) plan.region n) (events_of_first (region_run first) plan.region (begun_count (region_run first) plan.region)))
+prints_from plan first n =
+    prints (drop (steps_of_first (region_run first) plan.region n) (events_of_first (region_run first) plan.region
+    (begun_count (region_run first) plan.region)))
 
 -- what is still to be written of the region's prints: those that wait, and those of its iterations from the n-th on
-abbrev pub to_come : Plan → MachineState → List ℤ → ℕ → List ℤ
-to_come plan first waiting n = waiting ++ prints_from plan first n
+abbrev pub prints_to_come : Plan → MachineState → List ℤ → ℕ → List ℤ
+prints_to_come plan first waiting n = waiting ++ prints_from plan first n

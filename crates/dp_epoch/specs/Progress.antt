@@ -13,7 +13,7 @@ use Rattle.dp_semantics.specs.Recovery.{epoch, is_recovered}
 use Rattle.dp_semantics.specs.Reported.{reported, report_of, region_report}
 use Rattle.dp_meaning.specs.declared.ends.Part.TheVariants.{Region}
 use Rattle.dp_meaning.specs.MachineState.{MachineState, next_part}
-use Rattle.dp_commit.specs.CommittedState.{CommittedState, IsOpen, Holds, region_run}
+use Rattle.dp_commit.specs.CommittedState.{CommittedState, IsOpen, HoldsCommitted, region_run}
 use Rattle.dp_view.specs.Following.{KeptBefore}
 use Rattle.dp_view.specs.Viewed.{Viewed}
 use Rattle.dp_epoch.specs.Accounts.{Reports}
@@ -52,7 +52,7 @@ pub record Progress (plan : Plan) (first : MachineState) (c : CommittedState) (a
   pub start : RegionBegins plan first
   pub region : c.region ≡ plan.region
   pub is_open : IsOpen c
-  pub holds : Holds first c
+  pub holds : HoldsCommitted first c
   pub left : c.machine.config.to_do ≡ first.config.to_do
   pub report_is : Reports account (report_before plan first c.count)
   pub views_are : Watching plan first c.count account.why account.views

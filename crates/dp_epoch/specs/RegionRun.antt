@@ -36,10 +36,12 @@ beyond made k = made + k
 -- The region's begun iterations were made, and nothing else: the machine stands behind their steps, and no other region was reached by then.
 pub record RegionMade (p : Program) (plan : Plan) (first last : MachineState) : Type 0 where
   pub configs : List Config
-  pub piece : Continues (region_run first) (events_of_first (region_run first) plan.region (begun_count (region_run first) plan.region)) configs (rest_of_run last)
+  pub piece : Continues (region_run first) (events_of_first (region_run first) plan.region (begun_count (region_run first) plan.region))
+      configs (rest_of_run last)
   pub steps : last.steps ≡ first.steps + length (events_of_first (region_run first) plan.region (begun_count (region_run first) plan.region))
   pub others : (q : ℕ) → q ≢ plan.region →
-      starts (region_run first) q ≡ map (beyond (length (events_of_first (region_run first) plan.region (begun_count (region_run first) plan.region)))) (starts (rest_of_run last) q)
+      starts (region_run first) q ≡ map (beyond (length (events_of_first (region_run first) plan.region (begun_count (region_run first) plan.region))))
+      (starts (rest_of_run last) q)
   pub program : last.program ≡ first.program
   pub input : last.input ≡ first.input
   pub fuel : last.fuel ≡ first.fuel

@@ -4,9 +4,9 @@ ghost use Rattle.dp_plan.specs.declared.Plan.{Plan};
 ghost use Rattle.dp_meaning.specs.declared.ends.Part.TheVariants.{Region};
 ghost use Rattle.dp_meaning.specs.MachineState.{MachineState, next_part};
 ghost use Rattle.dp_epoch.specs.Accounts.{HearsOn};
-ghost use Rattle.dp_epoch.specs.Applied.{left_of};
+ghost use Rattle.dp_epoch.specs.Applied.{steps_left};
 ghost use Rattle.dp_epoch.specs.InEpoch.{AfterRecovery, IsUnclean, left_by_recovery};
-ghost use Rattle.dp_epoch.specs.Prints.{to_come};
+ghost use Rattle.dp_epoch.specs.Prints.{prints_to_come};
 ghost use Rattle.dp_epoch.specs.Remade.{Remade, iteration_end};
 
 use crate::ends::RegionEnd;
@@ -27,11 +27,14 @@ pub fn execute_again<W: Watch>(
     tally: &mut Tally<W>,
 ) -> Result<Option<RegionEnd>, NoMemory>
     requires unclean { (plan : Plan) × (first : MachineState) × IsUnclean plan first ledger.old.committed ledger.old.account }
-    ensures ok { IfOk result (λ end. (plan : Plan) (first : MachineState) → IsUnclean plan first ledger.old.committed ledger.old.account → AfterRecovery plan first ledger.new.committed ledger.new.account end) }
-    ensures prints { IfOk result (λ end. (printed : List ℤ) × Remade ledger.old.committed ledger.new.committed printed (iteration_end end) × (ledger.new.waiting ≡ ledger.old.waiting ++ printed)) }
+    ensures ok { IfOk result (λ end. (plan : Plan) (first : MachineState) → IsUnclean plan first ledger.old.committed ledger.old.account →
+        AfterRecovery plan first ledger.new.committed ledger.new.account end) }
+    ensures prints { IfOk result (λ end. (printed : List ℤ) × Remade ledger.old.committed ledger.new.committed printed (iteration_end end)
+        × (ledger.new.waiting ≡ ledger.old.waiting ++ printed)) }
     ensures ahead { IfOk result (λ end. (plan : Plan) (first : MachineState) → IsUnclean plan first ledger.old.committed ledger.old.account →
-        to_come plan first ledger.old.waiting ledger.old.committed.count ≡ left_by_recovery plan first ledger.new.waiting ledger.new.committed.count end) }
-    ensures left { IfOk result (λ end. end ≡ None → left_of ledger.new.committed < left_of ledger.old.committed) }
+        prints_to_come plan first ledger.old.waiting ledger.old.committed.count ≡ left_by_recovery plan first ledger.new.waiting
+        ledger.new.committed.count end) }
+    ensures left { IfOk result (λ end. end ≡ None → steps_left ledger.new.committed < steps_left ledger.old.committed) }
     ensures why { OnOk result (ledger.new.account.why ≡ ledger.old.account.why) }
     ensures tally { tally.new ≡ tally.old }
 {
@@ -51,7 +54,8 @@ pub(crate) fn execute(
     ledger: &mut Ledger<'_, '_>,
 ) -> Result<Option<RegionEnd>, NoMemory>
     requires next { next_part ledger.old.committed.machine ≡ Region ledger.old.committed.region }
-    ensures ok { IfOk result (λ end. (printed : List ℤ) × Remade ledger.old.committed ledger.new.committed printed (iteration_end end) × (ledger.new.waiting ≡ ledger.old.waiting ++ printed)) }
+    ensures ok { IfOk result (λ end. (printed : List ℤ) × Remade ledger.old.committed ledger.new.committed printed (iteration_end end)
+        × (ledger.new.waiting ≡ ledger.old.waiting ++ printed)) }
     ensures account { OnOk result (ledger.new.account ≡ record ledger.old.account { views = ledger.new.account.views }) }
     ensures heard { OnOk result (HearsOn ledger.old.committed.machine ledger.new.committed.machine ledger.old.account.views ledger.new.account.views) }
 {

@@ -2,8 +2,8 @@
 ghost use Rattle.std.specs.Prelude.{◌≡◌, ◌+◌, IfOk};
 ghost use Rattle.dp_plan.specs.declared.Plan.{Plan};
 ghost use Rattle.dp_meaning.specs.MachineState.{MachineState};
-ghost use Rattle.dp_epoch.specs.Applied.{HasRoom};
-ghost use Rattle.dp_epoch.specs.Followed.{Follows, IsFollowed};
+ghost use Rattle.dp_epoch.specs.Applied.{HasRoomForVerdicts};
+ghost use Rattle.dp_epoch.specs.Followed.{FollowsVerdict, IsFollowed};
 
 use crate::ledger::Ledger;
 use crate::verdicts::Verdicts;
@@ -33,11 +33,13 @@ pub fn follow<R: Wait + Clock, V: Verdicts, W: Watch>(
     ledger: &mut Ledger<'_, '_>,
     tally: &mut Tally<W>,
 ) -> Result<Followed, NoMemory>
-    requires epoch { (plan : Plan) × (first : MachineState) × IsFollowed plan (V.key verdicts.old) (V.given verdicts.old) first ledger.old.committed ledger.old.account × (words ≡ plan.words) }
-    requires room { HasRoom tally.old ledger.old.committed }
+    requires epoch { (plan : Plan) × (first : MachineState) × IsFollowed plan (V.key verdicts.old) (V.given verdicts.old) first ledger.old.committed
+        ledger.old.account × (words ≡ plan.words) }
+    requires room { HasRoomForVerdicts tally.old ledger.old.committed }
     ensures key { V.key verdicts.new ≡ V.key verdicts.old }
     ensures given { V.given verdicts.new ≡ V.given verdicts.old + 1 }
-    ensures followed { IfOk result (λ followed. Follows words (V.key verdicts.old) (V.given verdicts.old) ledger.old ledger.new followed tally.old tally.new) }
+    ensures followed { IfOk result (λ followed. FollowsVerdict words (V.key verdicts.old) (V.given verdicts.old) ledger.old ledger.new followed
+        tally.old tally.new) }
 {
     match verdicts.next(rt) {
         Verdict::Clean(clean) => {

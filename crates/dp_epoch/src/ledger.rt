@@ -36,7 +36,8 @@ impl<'p, 'v> Ledger<'p, 'v> {
         requires part { IsAnyRegion (next_part machine) }
         requires between { machine.current ≡ None }
         requires planned { IsPlanned program.now plan.now }
-        ensures committed { IfOk result (λ ledger. (region : ℕ) → next_part machine.entry ≡ part.Region region → ledger.committed ≡ record { machine = machine.entry; region = region; count = 0 }) }
+        ensures committed { IfOk result (λ ledger. (region : ℕ) → next_part machine.entry ≡ part.Region region →
+            ledger.committed ≡ record { machine = machine.entry; region = region; count = 0 }) }
         ensures account { IfOk result (λ ledger. ledger.account ≡ begun_account program.now plan.now machine.entry.config.cells why) }
         ensures waiting { IfOk result (λ ledger. ledger.waiting ≡ []) }
         ensures wanting { OnErr result (why ≡ true) }
@@ -56,7 +57,8 @@ impl<'p, 'v> Ledger<'p, 'v> {
     pub fn recover(&mut self, alloc: Global, turns: u32) -> Result<IterEnd, NoMemory>
         requires next { next_part self.old.committed.machine ≡ part.Region self.old.committed.region }
         requires turns { 0 < turns }
-        ensures ok { IfOk result (λ end. (printed : List ℤ) × Remade self.old.committed self.new.committed printed end × (self.new.waiting ≡ self.old.waiting ++ printed)) }
+        ensures ok { IfOk result (λ end. (printed : List ℤ) × Remade self.old.committed self.new.committed printed end
+            × (self.new.waiting ≡ self.old.waiting ++ printed)) }
         ensures account { OnOk result (self.new.account ≡ record self.old.account { views = self.new.account.views }) }
         ensures heard { OnOk result (HearsOn self.old.committed.machine self.new.committed.machine self.old.account.views self.new.account.views) }
     {

@@ -22,7 +22,8 @@ pub fn pipeline_here<'u, 'p>(
     requires sound { IsSound (key_here region.now.program region.now.plan input.now ledger.now.committed) }
     requires fuel { ledger.now.committed.machine.fuel ≤ 1000000000 }
     ensures setter { setter.new ≡ setter.old }
-    ensures verdicts { IfOk result (λ made. made.verdicts ≡ record { key = key_here region.now.program region.now.plan input.now ledger.now.committed; given = 0 }) }
+    ensures verdicts { IfOk result
+        (λ made. made.verdicts ≡ record { key = key_here region.now.program region.now.plan input.now ledger.now.committed; given = 0 }) }
 {
     let committed = &ledger.committed;
     let begin = Begin {

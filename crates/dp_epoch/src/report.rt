@@ -2,7 +2,7 @@
 ghost use Rattle.std.specs.Prelude.{◌≡◌, ◌<◌, ◌+◌, ◌-◌, ◌^◌, Bool, List, ℕ, [], ◌∷◌, ◌++◌, length, OnErr, OnOk};
 ghost use Rattle.dp_base.specs.declared.Cause.{Cause as cause_value};
 ghost use Rattle.dp_semantics.specs.Reported.{report_of};
-ghost use Rattle.dp_epoch.specs.Accounts.{Explains, listed, told_when};
+ghost use Rattle.dp_epoch.specs.Accounts.{Explains, cause_listed, told_when};
 
 use dp_base::{Cause, NoMemory, RegionReport, Row};
 use std::alloc::Global;
@@ -31,7 +31,8 @@ pub(crate) fn count_recovered(
 ) -> Result<(), NoMemory>
     requires number { number < 2 ^ 64 - 1 }
     requires again { report.old.recovered_count < 2 ^ 64 - 1 }
-    ensures counted { OnOk result ((why : Bool) (region n : ℕ) (again : List ℕ) (cause_is : ℕ → cause_value) → report.old ≡ told_when why (report_of region n again cause_is) → Explains why again cause (cause_is number) →
+    ensures counted { OnOk result ((why : Bool) (region n : ℕ) (again : List ℕ) (cause_is : ℕ → cause_value) →
+        report.old ≡ told_when why (report_of region n again cause_is) → Explains why again cause (cause_is number) →
         report.new ≡ told_when why (report_of region (number + 1) (again ++ number ∷ []) cause_is)) }
     ensures wanting { OnErr result (length report.old.recovered < 1000) }
 {
@@ -43,7 +44,8 @@ pub(crate) fn count_recovered(
 
 /// Appends a number, and its cause if one is told, to the lists of the first 1,000.
 fn list(report: &mut RegionReport, number: u64, cause: Option<Cause>) -> Result<(), NoMemory>
-    ensures listed { OnOk result ((why : Bool) (region n : ℕ) (again : List ℕ) (cause_is : ℕ → cause_value) → report.old ≡ told_when why (report_of region n again cause_is) → Explains why again cause (cause_is number) →
+    ensures listed { OnOk result ((why : Bool) (region n : ℕ) (again : List ℕ) (cause_is : ℕ → cause_value) →
+        report.old ≡ told_when why (report_of region n again cause_is) → Explains why again cause (cause_is number) →
         report.new ≡ told_when why (record (report_of region n (again ++ number ∷ []) cause_is) { recovered_count = length again })) }
     ensures wanting { OnErr result (length report.old.recovered < 1000) }
     ensures count { OnOk result (report.new.recovered_count ≡ report.old.recovered_count) }
@@ -58,7 +60,7 @@ fn list(report: &mut RegionReport, number: u64, cause: Option<Cause>) -> Result<
 
 /// Appends the cause, if one is told.
 fn push_cause(causes: &mut Row<Cause>, cause: Option<Cause>) -> Result<(), NoMemory>
-    ensures { OnOk result (causes.new ≡ causes.old ++ listed cause) }
+    ensures { OnOk result (causes.new ≡ causes.old ++ cause_listed cause) }
 {
     match cause {
         Some(cause) => causes.push(cause)?,

@@ -1,9 +1,9 @@
 //! A verdict of an epoch is taken.
 ghost use Rattle.std.specs.Prelude.{◌≡◌, ◌+◌, IfOk};
 ghost use Rattle.dp_meaning.specs.MachineState.{MachineState};
-ghost use Rattle.dp_epoch.specs.Applied.{HasRoom};
+ghost use Rattle.dp_epoch.specs.Applied.{HasRoomForVerdicts};
 ghost use Rattle.dp_epoch.specs.InEpoch.{InEpoch};
-ghost use Rattle.dp_epoch.specs.Taken.{Takes};
+ghost use Rattle.dp_epoch.specs.Taken.{TakesVerdict};
 
 use crate::ledger::Ledger;
 use crate::verdicts::Verdicts;
@@ -34,10 +34,10 @@ pub fn take<R: Wait + Clock, V: Verdicts, W: Watch>(
     tally: &mut Tally<W>,
 ) -> Result<Taken, NoMemory>
     requires epoch { (first : MachineState) × InEpoch (V.key verdicts.old) (V.given verdicts.old) first ledger.old.committed ledger.old.account }
-    requires room { HasRoom tally.old ledger.old.committed }
+    requires room { HasRoomForVerdicts tally.old ledger.old.committed }
     ensures key { V.key verdicts.new ≡ V.key verdicts.old }
     ensures given { V.given verdicts.new ≡ V.given verdicts.old + 1 }
-    ensures taken { IfOk result (λ taken. Takes (V.key verdicts.old) (V.given verdicts.old) ledger.old ledger.new taken tally.old tally.new) }
+    ensures taken { IfOk result (λ taken. TakesVerdict (V.key verdicts.old) (V.given verdicts.old) ledger.old ledger.new taken tally.old tally.new) }
 {
     match verdicts.next(rt) {
         Verdict::Clean(clean) => {

@@ -2,7 +2,7 @@
 ghost use Rattle.std.specs.Prelude.{◌≡◌, ◌+◌, ◌<◌, ℕ, true};
 ghost use Rattle.dp_semantics.specs.EpochKey.{EpochKey};
 ghost use Rattle.dp_semantics.specs.EpochVerdicts.{goes_on, verdict_at};
-ghost use Rattle.dp_judge.specs.Told.{Says};
+ghost use Rattle.dp_judge.specs.Told.{SaysDecided};
 
 use dp_judge::Verdict;
 use dp_pipeline::LaneVerdicts;
@@ -20,7 +20,7 @@ pub trait Verdicts {
     /// The verdict on the next iteration. There is none after one that isn't Clean or that closes the region.
     fn next<R: Wait + Clock>(&mut self, rt: &R) -> Verdict
         requires { (n : ℕ) → n < given self.old → goes_on (verdict_at (key self.old) n) ≡ true }
-        ensures verdict { Says (key self.old) result (verdict_at (key self.old) (given self.old)) }
+        ensures verdict { SaysDecided (key self.old) result (verdict_at (key self.old) (given self.old)) }
         ensures key { key self.new ≡ key self.old }
         ensures given { given self.new ≡ given self.old + 1 };
 }

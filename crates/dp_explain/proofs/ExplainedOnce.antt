@@ -49,6 +49,8 @@ module _ (p : Program) (profile : Option Profile) (rate : ℕ) where
       a.is ∙ ap (λ (u : Units). reason_text p profile rate u plan ++ a.later) (units_once plan.region a.units b.units a.are b.are)
       ∙ ap (λ (zs : List ℕ). reason_text p profile rate b.units plan ++ zs) (reasons_once rest a.later b.later a.behind b.behind) ∙ sym b.is
 
-pub explained_once : (p : Program) (profile : Option Profile) (rate : ℕ) (plans : List Plan) (text other : List ℕ) → IsExplanation p profile rate plans text → IsExplanation p profile rate plans other → text ≡ other
+pub explained_once : (p : Program) (profile : Option Profile) (rate : ℕ) (plans : List Plan) (text other : List ℕ) → IsExplanation p profile rate plans text →
+    IsExplanation p profile rate plans other → text ≡ other
 explained_once p profile rate plans text other x y =
-    x.is ∙ ap (λ (reasons : List ℕ). plans_text p plans ++ (reasons ++ codes "end\n")) (reasons_once p profile rate plans x.reasons y.reasons x.are y.are) ∙ sym y.is
+    x.is ∙ ap (λ (reasons : List ℕ). plans_text p plans ++ (reasons ++ codes "end\n")) (reasons_once p profile rate plans x.reasons y.reasons x.are y.are)
+    ∙ sym y.is

@@ -8,7 +8,7 @@ use Rattle.dp_plan.specs.declared.Plan.{Plan}
 use Rattle.dp_plan.specs.CheckedTable.{table_says}
 use Rattle.dp_sites.specs.declared.compared.Compared.{Compared}
 use Rattle.dp_depend.specs.declared.nodes.Node.{Node}
-use Rattle.dp_explain.specs.EdgeText.{stored_at, variable_text}
+use Rattle.dp_explain.specs.EdgeText.{node_store_at, variable_text}
 
 -- a site that is checked
 abbrev pub check_line : Bool → SiteId → List ℕ
@@ -22,7 +22,7 @@ check_lines p plan nodes = flat_map (λ (n : Node). check_line (table_says p pla
 -- a checked site, and a store because of which it is, with the variable that this stores
 abbrev pub compared_line : Program → ℕ → List Node → Compared → List ℕ
 compared_line p first nodes c =
-    labelled (codes "compared ") c.site.0 ++ (labelled (codes " ") c.store.0 ++ (variable_text p (stored_at first nodes c.store.0) ++ codes "\n"))
+    labelled (codes "compared ") c.site.0 ++ (labelled (codes " ") c.store.0 ++ (variable_text p (node_store_at first nodes c.store.0) ++ codes "\n"))
 
 abbrev pub compared_lines : Program → ℕ → List Node → List Compared → List ℕ
 compared_lines p first nodes pairs = flat_map (compared_line p first nodes) pairs

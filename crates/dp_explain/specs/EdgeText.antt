@@ -10,12 +10,12 @@ use Rattle.dp_depend.specs.declared.EdgeKind.TheVariants.{Control, Intra, Carrie
 use Rattle.dp_depend.specs.declared.nodes.Node.{Node}
 
 -- what a site stores, where these are the sites from the first one on
-abbrev pub stored_by : Option Node → Option ℕ
-stored_by None = None
-stored_by (Some n) = n.stores
+abbrev pub node_store : Option Node → Option ℕ
+node_store None = None
+node_store (Some n) = n.stores
 
-abbrev pub stored_at : ℕ → List Node → ℕ → Option ℕ
-stored_at first nodes site = stored_by (slice_get nodes (site - first))
+abbrev pub node_store_at : ℕ → List Node → ℕ → Option ℕ
+node_store_at first nodes site = node_store (slice_get nodes (site - first))
 
 -- a variable's name
 abbrev pub name_text : Option VarInfo → List ℕ
@@ -36,7 +36,7 @@ kind_text p Carried stored = codes " carried" ++ variable_text p stored
 -- behind a label, that the second site depends on the first
 abbrev pub edge_text : List ℕ → Program → ℕ → List Node → Edge → List ℕ
 edge_text label p first nodes e =
-    labelled label e.from.0 ++ (labelled (codes " ") e.to.0 ++ (kind_text p e.kind (stored_at first nodes e.from.0) ++ codes "\n"))
+    labelled label e.from.0 ++ (labelled (codes " ") e.to.0 ++ (kind_text p e.kind (node_store_at first nodes e.from.0) ++ codes "\n"))
 
 -- a line for each of these edges
 abbrev pub edge_texts : List ℕ → Program → ℕ → List Node → List Edge → List ℕ

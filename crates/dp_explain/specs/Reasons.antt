@@ -9,7 +9,7 @@ use Rattle.dp_profile.specs.Sites.{regions}
 use Rattle.dp_depend.specs.declared.Edge.{Edge}
 use Rattle.dp_depend.specs.declared.nodes.Node.{Node}
 use Rattle.dp_depend.specs.Node.{region_nodes}
-use Rattle.dp_depend.specs.Edges.{edges_of, first_of}
+use Rattle.dp_depend.specs.Edges.{edges_of, first_in_region}
 use Rattle.dp_units.specs.declared.classes.Units.{Units}
 use Rattle.dp_units.specs.Order.{ArePlaces, IsOrder}
 use Rattle.dp_cut.specs.Automatic.{node_pairs, weights_of}
@@ -28,7 +28,7 @@ pub record AreUnits (p : Program) (r : ℕ) (profile : Option Profile) (rate : �
 abbrev pub plain_text : Program → Plan → List ℕ
 plain_text p plan =
     labelled (codes "region ") plan.region
-    ++ (codes "\n" ++ (edge_texts (codes "edge ") p (first_of p plan.region) (region_nodes p plan.region) (edges_of p plan.region None 0)
+    ++ (codes "\n" ++ (edge_texts (codes "edge ") p (first_in_region p plan.region) (region_nodes p plan.region) (edges_of p plan.region None 0)
     ++ check_lines p plan (region_nodes p plan.region)))
 
 -- The dependences that the plan minds, the units that follow from them, with the weights of these sites, the stores because of which sites are
@@ -43,7 +43,8 @@ minded_with p plan first nodes edges weights units =
 -- by the profile, if there is one, and the rate
 abbrev pub minded_text : Program → Option Profile → ℕ → Units → Plan → List ℕ
 minded_text p profile rate units plan =
-    minded_with p plan (first_of p plan.region) (region_nodes p plan.region) (edges_of p plan.region profile rate) (weights_of p plan.region profile) units
+    minded_with p plan (first_in_region p plan.region) (region_nodes p plan.region) (edges_of p plan.region profile rate)
+    (weights_of p plan.region profile) units
     ++ shown_lines (regions p) plan.region profile
 
 -- what the plan rests on, where these are the units of its region

@@ -91,13 +91,13 @@ fn put_name(out: &mut Row<u8>, info: Option<&VarInfo>) -> Result<(), NoMemory>
 
 /// What a site stores.
 pub fn stored_at(first: u32, nodes: &[Node], site: u32) -> Option<u32>
-    ensures { result ≡ spec.stored_at first nodes.now site }
+    ensures { result ≡ spec.node_store_at first nodes.now site }
 {
     stored_by(nodes.get(site.saturating_sub(first) as usize))
 }
 
 fn stored_by(node: Option<&Node>) -> Option<u32>
-    ensures { result ≡ spec.stored_by (option_copied node.entry) }
+    ensures { result ≡ spec.node_store (option_copied node.entry) }
 {
     match node {
         None => None,

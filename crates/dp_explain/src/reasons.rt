@@ -3,7 +3,7 @@ ghost use Rattle.std.specs.Prelude.{◌≡◌, ◌<◌, ◌^◌, ◌++◌, lengt
 ghost use Rattle.std.specs.Option.{option_copied};
 ghost use Rattle.dp_profile.specs.Sites.{regions};
 ghost use Rattle.dp_depend.specs.Node.{region_nodes};
-ghost use Rattle.dp_depend.specs.Edges.{first_of as first_site};
+ghost use Rattle.dp_depend.specs.Edges.{first_in_region as first_site};
 ghost use Rattle.dp_explain.specs.Explanation.{IsExplanation, Reasons};
 ghost use Rattle.dp_explain.specs.Reasons as spec;
 ghost use Rattle.dp_explain.specs.steps.Added.{IsAdded};

@@ -9,7 +9,7 @@ use Rattle.dp_tree.specs.declared.Expr.TheVariants as tree
 use Rattle.dp_tree.specs.declared.Program.{Program}
 use Rattle.dp_tree.specs.Eval.{Load, place, just, first_cell, cell_count}
 unfoldable use Rattle.dp_tree.specs.Eval.{eval}
-use Rattle.dp_forms.specs.Values.{Gives}
+use Rattle.dp_forms.specs.Values.{GivesValue}
 
 -- what opens where the value of a form is computed
 unfoldable pub expression_opened : Unit {0}
@@ -18,47 +18,53 @@ unfolding Rattle.dp_tree.specs.Eval.eval denote.Hole.Carrier.out denote.Hole.Car
 expression_opened = tt
 
 module _ (p : Program) (input cells : List ℤ) where
-  pub gives_number : (z : ℤ) → Gives p input cells (tree.Number z) z
+  pub gives_number : (z : ℤ) → GivesValue p input cells (tree.Number z) z
   unfolding expression_opened
   gives_number z = record { loads = []; is = refl }
 
-  pub gives_length : Gives p input cells tree.InputLen (pos (length input))
+  pub gives_length : GivesValue p input cells tree.InputLen (pos (length input))
   unfolding expression_opened
   gives_length = record { loads = []; is = refl }
 
-  pub gives_scalar : (x : VarId) (v : ℤ) → get_or cells (first_cell p x) (pos 0) ≡ v → Gives p input cells (tree.Scalar x) v
+  pub gives_scalar : (x : VarId) (v : ℤ) → get_or cells (first_cell p x) (pos 0) ≡ v → GivesValue p input cells (tree.Scalar x) v
   unfolding expression_opened
-  gives_scalar x v e = subst (λ (w : ℤ). Gives p input cells (tree.Scalar x) w) e (record { loads = record { cell = first_cell p x; value = get_or cells (first_cell p x) (pos 0) } ∷ []; is = refl })
+  gives_scalar x v e = subst (λ (w : ℤ). GivesValue p input cells (tree.Scalar x) w) e
+      (record { loads = record { cell = first_cell p x; value = get_or cells (first_cell p x) (pos 0) } ∷ []; is = refl })
 
-  pub gives_word : (e : Expr) (i v : ℤ) (k : ℕ) → Gives p input cells e i → place i (length input) ≡ just k → get_or input k (pos 0) ≡ v → Gives p input cells (tree.Input e) v
+  pub gives_word : (e : Expr) (i v : ℤ) (k : ℕ) → GivesValue p input cells e i → place i (length input) ≡ just k → get_or input k (pos 0) ≡ v →
+      GivesValue p input cells (tree.Input e) v
   unfolding expression_opened
   gives_word e i v k g placed is = record { loads = g.loads ++ ([] ++ []); is = simp (g.is, placed, is) }
 
-  pub gives_element : (x : VarId) (e : Expr) (i v : ℤ) (k : ℕ) → Gives p input cells e i → place i (cell_count p x) ≡ just k → get_or cells (first_cell p x + k) (pos 0) ≡ v → Gives p input cells (tree.Element x e) v
+  pub gives_element : (x : VarId) (e : Expr) (i v : ℤ) (k : ℕ) → GivesValue p input cells e i → place i (cell_count p x) ≡ just k →
+      get_or cells (first_cell p x + k) (pos 0) ≡ v → GivesValue p input cells (tree.Element x e) v
   unfolding expression_opened
   gives_element x e i v k g placed is =
       record { loads = g.loads ++ ([] ++ (record { cell = first_cell p x + k; value = v } ∷ [])); is = simp (g.is, placed, is) }
 
-  pub gives_unary : (op : UnOp) (a : Expr) (x v : ℤ) → Gives p input cells a x → unary_result op x ≡ Ok v → Gives p input cells (tree.Unary op a) v
+  pub gives_unary : (op : UnOp) (a : Expr) (x v : ℤ) → GivesValue p input cells a x → unary_result op x ≡ Ok v → GivesValue p input cells (tree.Unary op a) v
   unfolding expression_opened
   gives_unary op a x v g is = record { loads = g.loads ++ []; is = simp (g.is, is) }
 
-  pub gives_binary : (op : BinOp) (a b : Expr) (x y v : ℤ) → Gives p input cells a x → Gives p input cells b y → binary_result op x y ≡ Ok v → Gives p input cells (tree.Binary op a b) v
+  pub gives_binary : (op : BinOp) (a b : Expr) (x y v : ℤ) → GivesValue p input cells a x → GivesValue p input cells b y → binary_result op x y ≡ Ok v →
+      GivesValue p input cells (tree.Binary op a b) v
   unfolding expression_opened
   gives_binary op a b x y v g h is = record { loads = g.loads ++ (h.loads ++ []); is = simp (g.is, h.is, is) }
 
-  pub gives_and_short : (a b : Expr) (x : ℤ) → Gives p input cells a x → is_zero x ≡ true → Gives p input cells (tree.And a b) (pos 0)
+  pub gives_and_short : (a b : Expr) (x : ℤ) → GivesValue p input cells a x → is_zero x ≡ true → GivesValue p input cells (tree.And a b) (pos 0)
   unfolding expression_opened
   gives_and_short a b x g zero = record { loads = g.loads ++ []; is = simp (g.is, zero) }
 
-  pub gives_and : (a b : Expr) (x y : ℤ) → Gives p input cells a x → is_zero x ≡ false → Gives p input cells b y → Gives p input cells (tree.And a b) (number_of (not (is_zero y)))
+  pub gives_and : (a b : Expr) (x y : ℤ) → GivesValue p input cells a x → is_zero x ≡ false → GivesValue p input cells b y →
+      GivesValue p input cells (tree.And a b) (number_of (not (is_zero y)))
   unfolding expression_opened
   gives_and a b x y g zero h = record { loads = g.loads ++ (h.loads ++ []); is = simp (g.is, zero, h.is) }
 
-  pub gives_or_short : (a b : Expr) (x : ℤ) → Gives p input cells a x → is_zero x ≡ false → Gives p input cells (tree.Or a b) (pos 1)
+  pub gives_or_short : (a b : Expr) (x : ℤ) → GivesValue p input cells a x → is_zero x ≡ false → GivesValue p input cells (tree.Or a b) (pos 1)
   unfolding expression_opened
   gives_or_short a b x g zero = record { loads = g.loads ++ []; is = simp (g.is, zero) }
 
-  pub gives_or : (a b : Expr) (x y : ℤ) → Gives p input cells a x → is_zero x ≡ true → Gives p input cells b y → Gives p input cells (tree.Or a b) (number_of (not (is_zero y)))
+  pub gives_or : (a b : Expr) (x y : ℤ) → GivesValue p input cells a x → is_zero x ≡ true → GivesValue p input cells b y →
+      GivesValue p input cells (tree.Or a b) (number_of (not (is_zero y)))
   unfolding expression_opened
   gives_or a b x y g zero h = record { loads = g.loads ++ (h.loads ++ []); is = simp (g.is, zero, h.is) }

@@ -6,15 +6,15 @@ use Rattle.dp_tree.specs.declared.Stmt.{Stmt}
 use Rattle.dp_tree.specs.declared.Stmt.TheVariants as stmt
 use Rattle.dp_tree.specs.declared.Program.{Program}
 use Rattle.dp_tree.specs.Step.{standing}
-use Rattle.dp_meaning.specs.Places.{rests, number_of}
+use Rattle.dp_meaning.specs.Places.{rests, site_number}
 use Rattle.dp_native.specs.Reaches.{Reaches}
 use Rattle.dp_forms.specs.Registers.{merged, IsPut as IsPutAt}
-use Rattle.dp_forms.specs.Values.{IsRegister, IsArray, Evaluates, ValueRelation}
+use Rattle.dp_forms.specs.Values.{IsRegister, IsArray, HasEvaluated, ValueRelation}
 
 -- the site of the first statement, or 0 where there is none
 abbrev pub first_number : List Stmt → ℕ
 first_number [] = 0
-first_number (s ∷ rest) = number_of s
+first_number (s ∷ rest) = site_number s
 
 -- one of these lists
 pub data Among (x : List Stmt) : List (List Stmt) → Type 0 where
@@ -27,14 +27,15 @@ pub record IsLeft (stmts behind : List Stmt) (site : ℕ) (to_do : List Stmt) : 
   pub site_is : first_number to_do ≡ site
 
 -- what is left to do behind the statements, which is 0, or at this site of them
-pub record Stands (stmts behind : List Stmt) (at : ℕ) (to_do : List Stmt) : Type 0 where
+pub record StandsAtSite (stmts behind : List Stmt) (at : ℕ) (to_do : List Stmt) : Type 0 where
   pub done : at ≡ 0 → to_do ≡ behind
   pub left : at ≢ 0 → IsLeft stmts behind at to_do
 
 -- Code has gone from here, with these statements to do, through some of them.
-pub record Goes (p : Program) (homes : List ℕ) (stmts behind here : List Stmt) (input : List ℤ) (fuel : ℕ) (registers cells out : List ℤ) (at fuel' : ℕ) (registers' cells' out' : List ℤ) : Type 0 where
+pub record Goes (p : Program) (homes : List ℕ) (stmts behind here : List Stmt) (input : List ℤ) (fuel : ℕ) (registers cells out : List ℤ) (at fuel' : ℕ)
+    (registers' cells' out' : List ℤ) : Type 0 where
   pub to_do : List Stmt
-  pub stands : Stands stmts behind at to_do
+  pub stands : StandsAtSite stmts behind at to_do
   pub reaches : Reaches p input fuel out (standing p here (merged homes registers cells)) fuel' out' (standing p to_do (merged homes registers' cells'))
 
 pub record IsSet (p : Program) (homes : List ℕ) (size site register : ℕ) (Value : Expr → Type 0) (stmts : List Stmt) : Type 0 where
@@ -91,7 +92,7 @@ pub record IsOther (site : ℕ) (stmts : List Stmt) : Type 0 where
   pub statement : Stmt
   pub is : stmts ≡ statement ∷ []
   pub numbered : site ≢ 0
-  pub site_is : number_of statement ≡ site
+  pub site_is : site_number statement ≡ site
 
 -- what makes of code that of statements: by the program, the registers' homes and the memory's size
 abbrev pub CodeRelation : Type 1
@@ -128,7 +129,8 @@ Runs Is input fuel registers memory out at fuel' registers' memory' out' =
     Goes p homes stmts behind (stmts ++ behind) input fuel registers memory out at fuel' registers' memory' out'
 
 -- Code that was entered at a site of some statements has gone on from there.
-pub record Entered (p : Program) (homes : List ℕ) (stmts behind : List Stmt) (site : ℕ) (input : List ℤ) (fuel : ℕ) (registers memory out : List ℤ) (at fuel' : ℕ) (registers' memory' out' : List ℤ) : Type 0 where
+pub record Entered (p : Program) (homes : List ℕ) (stmts behind : List Stmt) (site : ℕ) (input : List ℤ) (fuel : ℕ) (registers memory out : List ℤ)
+    (at fuel' : ℕ) (registers' memory' out' : List ℤ) : Type 0 where
   pub here : List Stmt
   pub is_here : IsLeft stmts behind site here
   pub plain : (xs : List ℤ) → standing p here xs ≡ record { to_do = here; cells = xs }
@@ -140,14 +142,17 @@ Enters Is site input fuel registers memory out at fuel' registers' memory' out' 
     Entered p homes stmts behind site input fuel registers memory out at fuel' registers' memory' out'
 
 -- Code of an element's index and of a value has stored the value there.
-abbrev pub Stores : ValueRelation → ValueRelation → ℕ → ℕ → List ℤ → List ℤ → List ℤ → List ℤ → Type 0
-Stores Index Value first count input registers memory memory' =
-    (at value : ℤ) × Evaluates Index input memory registers at × Evaluates Value input memory registers value × IsPutAt memory first count at value memory'
+abbrev pub StoresElement : ValueRelation → ValueRelation → ℕ → ℕ → List ℤ → List ℤ → List ℤ → List ℤ → Type 0
+StoresElement Index Value first count input registers memory memory' =
+    (at value : ℤ) × HasEvaluated Index input memory registers at × HasEvaluated Value input memory registers value
+    × IsPutAt memory first count at value memory'
 
 -- The loop that this relation says the code to be has come from its head to its head again.
-pub record Kept (Is : CodeRelation) (input : List ℤ) (fuel : ℕ) (registers memory out : List ℤ) (fuel' : ℕ) (registers' memory' out' : List ℤ) : Type 0 where
+pub record LoopRound (Is : CodeRelation) (input : List ℤ) (fuel : ℕ) (registers memory out : List ℤ) (fuel' : ℕ)
+    (registers' memory' out' : List ℤ) : Type 0 where
   pub reaches : (p : Program) (homes : List ℕ) (stmts behind : List Stmt) → Is p homes (length memory) stmts →
-      Reaches p input fuel out (standing p (stmts ++ behind) (merged homes registers memory)) fuel' out' (standing p (stmts ++ behind) (merged homes registers' memory'))
+      Reaches p input fuel out (standing p (stmts ++ behind) (merged homes registers memory)) fuel' out'
+      (standing p (stmts ++ behind) (merged homes registers' memory'))
 
 -- The code is that of the whole program.
 pub record IsWhole (Main : CodeRelation) (homes : List ℕ) (size sites : ℕ) (p : Program) : Type 0 where

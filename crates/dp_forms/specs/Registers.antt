@@ -10,14 +10,16 @@ merged (home ∷ homes) [] cells = cells
 merged (home ∷ homes) (value ∷ values) cells = slice_set (merged homes values cells) home value
 
 -- the cell is the home of this register, and of none before it
-abbrev pub is_home : List ℕ → ℕ → ℕ → Bool
-is_home [] register cell = false
-is_home (home ∷ homes) register cell = if home == cell then register == 0 else (if register == 0 then false else is_home homes (register - 1) cell)
+abbrev pub is_register_home : List ℕ → ℕ → ℕ → Bool
+is_register_home [] register cell = false
+is_register_home (home ∷ homes) register cell =
+    if home == cell then register == 0 else (if register == 0 then false else is_register_home homes (register - 1) cell)
 
 -- no register's home is among so many cells from the first one on
-abbrev pub is_apart : List ℕ → ℕ → ℕ → Bool
-is_apart [] first count = true
-is_apart (home ∷ homes) first count = if nat_lt home first then is_apart homes first count else (if nat_lt home (first + count) then false else is_apart homes first count)
+abbrev pub homes_apart : List ℕ → ℕ → ℕ → Bool
+homes_apart [] first count = true
+homes_apart (home ∷ homes) first count =
+    if nat_lt home first then homes_apart homes first count else (if nat_lt home (first + count) then false else homes_apart homes first count)
 
 -- the array that has so many cells from the first one on holds this value at an index
 pub record IsCell (cells : List ℤ) (first count : ℕ) (index value : ℤ) : Type 0 where

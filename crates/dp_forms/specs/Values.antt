@@ -7,23 +7,23 @@ use Rattle.dp_tree.specs.declared.Expr.{Expr}
 use Rattle.dp_tree.specs.declared.Expr.TheVariants as tree
 use Rattle.dp_tree.specs.declared.Program.{Program}
 use Rattle.dp_tree.specs.Eval.{Load, eval, first_cell, cell_count}
-use Rattle.dp_forms.specs.Registers.{is_home, is_apart, merged}
+use Rattle.dp_forms.specs.Registers.{is_register_home, homes_apart, merged}
 
 -- the expression has this value in this memory
-pub record Gives (p : Program) (input cells : List ℤ) (e : Expr) (value : ℤ) : Type 0 where
+pub record GivesValue (p : Program) (input cells : List ℤ) (e : Expr) (value : ℤ) : Type 0 where
   pub loads : List Load
   pub is : eval p input cells e ≡ Ok (record { value = value; loads = loads })
 
 -- the variable's cell is the home of this register
 pub record IsRegister (p : Program) (homes : List ℕ) (size register : ℕ) (x : VarId) : Type 0 where
-  pub home : is_home homes register (first_cell p x) ≡ true
+  pub home : is_register_home homes register (first_cell p x) ≡ true
   pub below : first_cell p x < size
 
 -- the variable has so many cells from this one on, and no register is at home there
 pub record IsArray (p : Program) (homes : List ℕ) (size first count : ℕ) (x : VarId) : Type 0 where
   pub first_is : first_cell p x ≡ first
   pub count_is : cell_count p x ≡ count
-  pub apart : is_apart homes first count ≡ true
+  pub apart : homes_apart homes first count ≡ true
   pub within : first + count ≤ size
 
 pub record IsScalar (p : Program) (homes : List ℕ) (size register : ℕ) (e : Expr) : Type 0 where
@@ -70,8 +70,8 @@ pub record IsOr (Left Right : Expr → Type 0) (e : Expr) : Type 0 where
   pub right_is : Right right
 
 -- Code that this relation says to be an expression's has found this value of it.
-pub record Evaluates (Is : Program → List ℕ → ℕ → Expr → Type 0) (input memory registers : List ℤ) (value : ℤ) : Type 0 where
-  pub gives : (p : Program) (homes : List ℕ) (e : Expr) → Is p homes (length memory) e → Gives p input (merged homes registers memory) e value
+pub record HasEvaluated (Is : Program → List ℕ → ℕ → Expr → Type 0) (input memory registers : List ℤ) (value : ℤ) : Type 0 where
+  pub gives : (p : Program) (homes : List ℕ) (e : Expr) → Is p homes (length memory) e → GivesValue p input (merged homes registers memory) e value
 
 -- what makes of code that of an expression: by the program, the registers' homes and the memory's size
 abbrev pub ValueRelation : Type 1

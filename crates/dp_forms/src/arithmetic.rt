@@ -7,7 +7,7 @@ ghost use Rattle.dp_base.specs.declared.BinOp.{BinOp};
 ghost use Rattle.dp_base.specs.declared.BinOp.TheVariants as op;
 ghost use Rattle.dp_base.specs.declared.UnOp.{UnOp};
 ghost use Rattle.dp_base.specs.declared.UnOp.TheVariants as prefix;
-ghost use Rattle.dp_forms.specs.Values.{Evaluates, OfBinary, OfUnary};
+ghost use Rattle.dp_forms.specs.Values.{HasEvaluated, OfBinary, OfUnary};
 
 use super::values::Value;
 use dp_base::{BinOp, UnOp};

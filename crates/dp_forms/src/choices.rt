@@ -3,7 +3,7 @@
 ghost use Rattle.std.specs.Prelude.{◌≡◌, ◌≤◌, ◌<◌, ◌^◌, IsTrue, length, not};
 ghost use Rattle.std.specs.Option.{IfSome, MatchOption};
 ghost use Rattle.dp_base.specs.Arithmetic.{number_of, is_zero};
-ghost use Rattle.dp_forms.specs.Values.{Evaluates, OfAnd, OfOr};
+ghost use Rattle.dp_forms.specs.Values.{HasEvaluated, OfAnd, OfOr};
 ghost use Rattle.dp_forms.specs.Codes.{Runs, Enters, OfIf};
 
 use super::codes::Code;
@@ -106,7 +106,8 @@ impl<const N: usize, const S: u32, C: Value<N>, A: Code<N>, B: Code<N>> Code<N> 
         requires { state.at ≡ 0 }
         ensures less { result.fuel ≤ state.entry.fuel }
         ensures small { result.at < 2 ^ 32 }
-        ensures runs { Runs (OfIf S C.is_of A.is_of B.is_of) input.now state.entry.fuel state.entry.registers memory.old out.old result.at result.fuel result.registers memory.new out.new }
+        ensures runs { Runs (OfIf S C.is_of A.is_of B.is_of) input.now state.entry.fuel state.entry.registers memory.old out.old result.at result.fuel
+            result.registers memory.new out.new }
     {
         let left = state.left_at(S);
         if state.fuel < 1 {
@@ -136,7 +137,9 @@ impl<const N: usize, const S: u32, C: Value<N>, A: Code<N>, B: Code<N>> Code<N> 
         state: &State<N>,
     ) -> Option<State<N>>
         requires { state.now.at ≡ 0 }
-        ensures { MatchOption result ((memory.new ≡ memory.old) × (out.new ≡ out.old)) (λ to. (to.at < 2 ^ 32) × Enters (OfIf S C.is_of A.is_of B.is_of) site input.now state.now.fuel state.now.registers memory.old out.old to.at to.fuel to.registers memory.new out.new) }
+        ensures { MatchOption result ((memory.new ≡ memory.old) × (out.new ≡ out.old)) (λ to. (to.at < 2 ^ 32)
+            × Enters (OfIf S C.is_of A.is_of B.is_of) site input.now state.now.fuel state.now.registers memory.old out.old to.at to.fuel to.registers
+            memory.new out.new) }
     {
         if site == S {
             let to = Self::run::<Apart>(input, memory, out, *state);

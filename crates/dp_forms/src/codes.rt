@@ -24,7 +24,8 @@ pub trait Code<const N: usize> {
         requires { state.at ≡ 0 }
         ensures less { result.fuel ≤ state.entry.fuel }
         ensures small { result.at < 2 ^ 32 }
-        ensures runs { Runs is_of input.now state.entry.fuel state.entry.registers memory.old out.old result.at result.fuel result.registers memory.new out.new };
+        ensures runs { Runs is_of input.now state.entry.fuel state.entry.registers memory.old out.old result.at result.fuel result.registers
+            memory.new out.new };
 
     /// Goes on at a site, where the code can begin there.
     fn enter(
@@ -35,5 +36,6 @@ pub trait Code<const N: usize> {
         state: &State<N>,
     ) -> Option<State<N>>
         requires { state.now.at ≡ 0 }
-        ensures { MatchOption result ((memory.new ≡ memory.old) × (out.new ≡ out.old)) (λ to. (to.at < 2 ^ 32) × Enters is_of site input.now state.now.fuel state.now.registers memory.old out.old to.at to.fuel to.registers memory.new out.new) };
+        ensures { MatchOption result ((memory.new ≡ memory.old) × (out.new ≡ out.old)) (λ to. (to.at < 2 ^ 32)
+            × Enters is_of site input.now state.now.fuel state.now.registers memory.old out.old to.at to.fuel to.registers memory.new out.new) };
 }

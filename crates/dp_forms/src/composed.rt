@@ -56,7 +56,8 @@ impl<const N: usize, M: Code<N>> NativeProgram for Composed<N, M> {
     ) -> (u32, u64)
         ensures { (p : Program) → IsInlined p → IsWhole M.is_of self.now.homes self.now.size self.now.sites p →
             part_of (rest_at p place) ≡ Plain →
-            Reaches p input.now fuel out.old (config_at p (record { place = place; cells = cells.old })) result.1 out.new (standing p (rest_at p result.0) cells.new) }
+            Reaches p input.now fuel out.old (config_at p (record { place = place; cells = cells.old })) result.1 out.new
+            (standing p (rest_at p result.0) cells.new) }
     {
         let ready = self.is_ready(place, cells);
         if !ready {

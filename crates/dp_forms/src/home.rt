@@ -1,8 +1,8 @@
 //! Where a program's variables are, beside the registers.
 
 ghost use Rattle.std.specs.Prelude.{◌≡◌, ◌<◌, ◌+◌, ◌^◌, IsTrue};
-ghost use Rattle.dp_forms.specs.Registers.{is_home, is_apart};
-ghost use Rattle.dp_meaning.specs.Places.{number_of};
+ghost use Rattle.dp_forms.specs.Registers.{is_register_home, homes_apart};
+ghost use Rattle.dp_meaning.specs.Places.{site_number};
 ghost use Rattle.dp_forms.specs.Values.{IsRegister, IsArray};
 
 use dp_base::VarId;
@@ -10,7 +10,7 @@ use dp_tree::{Program, Stmt};
 
 /// Whether the cell is the home of this register, and of none before it.
 fn home_is(homes: &[u32], register: usize, cell: u32) -> bool
-    ensures { result ≡ is_home homes.now register cell }
+    ensures { result ≡ is_register_home homes.now register cell }
 {
     let mut left = register;
     for home in homes {
@@ -28,7 +28,7 @@ fn home_is(homes: &[u32], register: usize, cell: u32) -> bool
 /// Whether no register's home is among these cells.
 fn are_apart(homes: &[u32], first: u64, count: u64) -> bool
     requires { first + count < 2 ^ 63 }
-    ensures { result ≡ is_apart homes.now first count }
+    ensures { result ≡ homes_apart homes.now first count }
 {
     for home in homes {
         let home = *home as u64;
@@ -82,7 +82,7 @@ pub(crate) fn is_array(
 
 /// The statement's site; a call has none.
 pub(crate) fn site_of(statement: &Stmt) -> u32
-    ensures { result ≡ number_of statement.now }
+    ensures { result ≡ site_number statement.now }
 {
     match statement {
         Stmt::Assign { site, .. }

@@ -39,7 +39,8 @@ impl<const N: usize, const S: u32, const M: u64, const P: usize, C: Value<N>, A:
         requires { state.at ≡ 0 }
         ensures less { result.fuel ≤ state.entry.fuel }
         ensures small { result.at < 2 ^ 32 }
-        ensures runs { Runs (OfWhile S C.is_of A.is_of) input.now state.entry.fuel state.entry.registers memory.old out.old result.at result.fuel result.registers memory.new out.new }
+        ensures runs { Runs (OfWhile S C.is_of A.is_of) input.now state.entry.fuel state.entry.registers memory.old out.old result.at result.fuel
+            result.registers memory.new out.new }
     {
         turns::<N, S, M, P, C, A, W>(input, memory, out, state)
     }
@@ -52,7 +53,9 @@ impl<const N: usize, const S: u32, const M: u64, const P: usize, C: Value<N>, A:
         state: &State<N>,
     ) -> Option<State<N>>
         requires { state.now.at ≡ 0 }
-        ensures { MatchOption result ((memory.new ≡ memory.old) × (out.new ≡ out.old)) (λ to. (to.at < 2 ^ 32) × Enters (OfWhile S C.is_of A.is_of) site input.now state.now.fuel state.now.registers memory.old out.old to.at to.fuel to.registers memory.new out.new) }
+        ensures { MatchOption result ((memory.new ≡ memory.old) × (out.new ≡ out.old)) (λ to. (to.at < 2 ^ 32)
+            × Enters (OfWhile S C.is_of A.is_of) site input.now state.now.fuel state.now.registers memory.old out.old to.at to.fuel to.registers
+            memory.new out.new) }
     {
         entered::<N, S, M, P, 0, C, A>(site, input, memory, out, state)
     }
@@ -84,7 +87,8 @@ impl<
         requires { state.at ≡ 0 }
         ensures less { result.fuel ≤ state.entry.fuel }
         ensures small { result.at < 2 ^ 32 }
-        ensures runs { Runs (OfWhile S C.is_of A.is_of) input.now state.entry.fuel state.entry.registers memory.old out.old result.at result.fuel result.registers memory.new out.new }
+        ensures runs { Runs (OfWhile S C.is_of A.is_of) input.now state.entry.fuel state.entry.registers memory.old out.old result.at result.fuel
+            result.registers memory.new out.new }
     {
         turns_apart::<N, S, M, P, L, C, A>(input, memory, out, &state)
     }
@@ -97,7 +101,9 @@ impl<
         state: &State<N>,
     ) -> Option<State<N>>
         requires { state.now.at ≡ 0 }
-        ensures { MatchOption result ((memory.new ≡ memory.old) × (out.new ≡ out.old)) (λ to. (to.at < 2 ^ 32) × Enters (OfWhile S C.is_of A.is_of) site input.now state.now.fuel state.now.registers memory.old out.old to.at to.fuel to.registers memory.new out.new) }
+        ensures { MatchOption result ((memory.new ≡ memory.old) × (out.new ≡ out.old)) (λ to. (to.at < 2 ^ 32)
+            × Enters (OfWhile S C.is_of A.is_of) site input.now state.now.fuel state.now.registers memory.old out.old to.at to.fuel to.registers
+            memory.new out.new) }
     {
         entered::<N, S, M, P, L, C, A>(site, input, memory, out, state)
     }
@@ -134,7 +140,8 @@ fn turns<const N: usize, const S: u32, const M: u64, const P: usize, C: Value<N>
     requires { state.at ≡ 0 }
     ensures less { result.fuel ≤ state.entry.fuel }
     ensures small { result.at < 2 ^ 32 }
-    ensures runs { Runs (OfWhile S C.is_of A.is_of) input.now state.entry.fuel state.entry.registers memory.old out.old result.at result.fuel result.registers memory.new out.new }
+    ensures runs { Runs (OfWhile S C.is_of A.is_of) input.now state.entry.fuel state.entry.registers memory.old out.old result.at result.fuel result.registers
+        memory.new out.new }
 {
     let mut state = state;
     'turns: while state.fuel > M {
@@ -175,7 +182,8 @@ fn turns_apart<
     requires { state.now.at ≡ 0 }
     ensures less { result.fuel ≤ state.now.fuel }
     ensures small { result.at < 2 ^ 32 }
-    ensures runs { Runs (OfWhile S C.is_of A.is_of) input.now state.now.fuel state.now.registers memory.old out.old result.at result.fuel result.registers memory.new out.new }
+    ensures runs { Runs (OfWhile S C.is_of A.is_of) input.now state.now.fuel state.now.registers memory.old out.old result.at result.fuel result.registers
+        memory.new out.new }
 {
     if memory.len() < L {
         let left = state.left_at(S);
@@ -201,7 +209,9 @@ fn entered<
     state: &State<N>,
 ) -> Option<State<N>>
     requires { state.now.at ≡ 0 }
-    ensures { MatchOption result ((memory.new ≡ memory.old) × (out.new ≡ out.old)) (λ to. (to.at < 2 ^ 32) × Enters (OfWhile S C.is_of A.is_of) site input.now state.now.fuel state.now.registers memory.old out.old to.at to.fuel to.registers memory.new out.new) }
+    ensures { MatchOption result ((memory.new ≡ memory.old) × (out.new ≡ out.old)) (λ to. (to.at < 2 ^ 32)
+        × Enters (OfWhile S C.is_of A.is_of) site input.now state.now.fuel state.now.registers memory.old out.old to.at to.fuel to.registers
+        memory.new out.new) }
 {
     if site == S {
         let to = turns_apart::<N, S, M, P, L, C, A>(input, memory, out, state);

@@ -2,7 +2,7 @@
 
 ghost use Rattle.std.specs.Prelude.{◌≡◌, IsTrue, length, pos};
 ghost use Rattle.std.specs.Option.{IfSome};
-ghost use Rattle.dp_forms.specs.Values.{Evaluates, OfNumber, OfLength, OfScalar, OfElement, OfWord};
+ghost use Rattle.dp_forms.specs.Values.{HasEvaluated, OfNumber, OfLength, OfScalar, OfElement, OfWord};
 
 use super::home::{is_array, is_register};
 use super::memory::cell;

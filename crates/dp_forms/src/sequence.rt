@@ -35,7 +35,8 @@ impl<const N: usize, const L: usize, A: Code<N>, B: Code<N>> Code<N> for Then<L,
         requires { state.at ≡ 0 }
         ensures less { result.fuel ≤ state.entry.fuel }
         ensures small { result.at < 2 ^ 32 }
-        ensures runs { Runs (OfThen A.is_of B.is_of) input.now state.entry.fuel state.entry.registers memory.old out.old result.at result.fuel result.registers memory.new out.new }
+        ensures runs { Runs (OfThen A.is_of B.is_of) input.now state.entry.fuel state.entry.registers memory.old out.old result.at result.fuel result.registers
+            memory.new out.new }
     {
         let between = A::run::<W>(input, memory, out, state);
         if between.at == 0 {
@@ -54,7 +55,9 @@ impl<const N: usize, const L: usize, A: Code<N>, B: Code<N>> Code<N> for Then<L,
         state: &State<N>,
     ) -> Option<State<N>>
         requires { state.now.at ≡ 0 }
-        ensures { MatchOption result ((memory.new ≡ memory.old) × (out.new ≡ out.old)) (λ to. (to.at < 2 ^ 32) × Enters (OfThen A.is_of B.is_of) site input.now state.now.fuel state.now.registers memory.old out.old to.at to.fuel to.registers memory.new out.new) }
+        ensures { MatchOption result ((memory.new ≡ memory.old) × (out.new ≡ out.old)) (λ to. (to.at < 2 ^ 32)
+            × Enters (OfThen A.is_of B.is_of) site input.now state.now.fuel state.now.registers memory.old out.old to.at to.fuel to.registers
+            memory.new out.new) }
     {
         match A::enter(site, input, memory, out, state) {
             Some(between) => {
@@ -91,7 +94,8 @@ impl<const N: usize> Code<N> for Nothing {
         requires { state.at ≡ 0 }
         ensures less { result.fuel ≤ state.entry.fuel }
         ensures small { result.at < 2 ^ 32 }
-        ensures runs { Runs (OfNothing) input.now state.entry.fuel state.entry.registers memory.old out.old result.at result.fuel result.registers memory.new out.new }
+        ensures runs { Runs (OfNothing) input.now state.entry.fuel state.entry.registers memory.old out.old result.at result.fuel result.registers
+            memory.new out.new }
     {
         state
     }
@@ -104,7 +108,8 @@ impl<const N: usize> Code<N> for Nothing {
         state: &State<N>,
     ) -> Option<State<N>>
         requires { state.now.at ≡ 0 }
-        ensures { MatchOption result ((memory.new ≡ memory.old) × (out.new ≡ out.old)) (λ to. (to.at < 2 ^ 32) × Enters (OfNothing) site input.now state.now.fuel state.now.registers memory.old out.old to.at to.fuel to.registers memory.new out.new) }
+        ensures { MatchOption result ((memory.new ≡ memory.old) × (out.new ≡ out.old)) (λ to. (to.at < 2 ^ 32)
+            × Enters (OfNothing) site input.now state.now.fuel state.now.registers memory.old out.old to.at to.fuel to.registers memory.new out.new) }
     {
         None
     }
@@ -128,7 +133,8 @@ impl<const N: usize, const S: u32> Code<N> for Other<S> {
         requires { state.at ≡ 0 }
         ensures less { result.fuel ≤ state.entry.fuel }
         ensures small { result.at < 2 ^ 32 }
-        ensures runs { Runs (OfOther S) input.now state.entry.fuel state.entry.registers memory.old out.old result.at result.fuel result.registers memory.new out.new }
+        ensures runs { Runs (OfOther S) input.now state.entry.fuel state.entry.registers memory.old out.old result.at result.fuel result.registers
+            memory.new out.new }
     {
         state.left_at(S)
     }
@@ -141,7 +147,8 @@ impl<const N: usize, const S: u32> Code<N> for Other<S> {
         state: &State<N>,
     ) -> Option<State<N>>
         requires { state.now.at ≡ 0 }
-        ensures { MatchOption result ((memory.new ≡ memory.old) × (out.new ≡ out.old)) (λ to. (to.at < 2 ^ 32) × Enters (OfOther S) site input.now state.now.fuel state.now.registers memory.old out.old to.at to.fuel to.registers memory.new out.new) }
+        ensures { MatchOption result ((memory.new ≡ memory.old) × (out.new ≡ out.old)) (λ to. (to.at < 2 ^ 32)
+            × Enters (OfOther S) site input.now state.now.fuel state.now.registers memory.old out.old to.at to.fuel to.registers memory.new out.new) }
     {
         None
     }

@@ -2,7 +2,7 @@
 
 ghost use Rattle.std.specs.Prelude.{◌≡◌, ◌≤◌, ◌<◌, ◌^◌};
 ghost use Rattle.std.specs.Option.{MatchOption};
-ghost use Rattle.dp_forms.specs.Codes.{Runs, Enters, OfSet, OfPut, OfSay, Stores};
+ghost use Rattle.dp_forms.specs.Codes.{Runs, Enters, OfSet, OfPut, OfSay, StoresElement};
 
 use super::codes::Code;
 use super::home::{is_array, is_register};
@@ -40,7 +40,8 @@ impl<const N: usize, const S: u32, const K: usize, V: Value<N>> Code<N> for Set<
         requires { state.at ≡ 0 }
         ensures less { result.fuel ≤ state.entry.fuel }
         ensures small { result.at < 2 ^ 32 }
-        ensures runs { Runs (OfSet S K V.is_of) input.now state.entry.fuel state.entry.registers memory.old out.old result.at result.fuel result.registers memory.new out.new }
+        ensures runs { Runs (OfSet S K V.is_of) input.now state.entry.fuel state.entry.registers memory.old out.old result.at result.fuel result.registers
+            memory.new out.new }
     {
         let left = state.left_at(S);
         if state.fuel < 1 {
@@ -66,7 +67,8 @@ impl<const N: usize, const S: u32, const K: usize, V: Value<N>> Code<N> for Set<
         state: &State<N>,
     ) -> Option<State<N>>
         requires { state.now.at ≡ 0 }
-        ensures { MatchOption result ((memory.new ≡ memory.old) × (out.new ≡ out.old)) (λ to. (to.at < 2 ^ 32) × Enters (OfSet S K V.is_of) site input.now state.now.fuel state.now.registers memory.old out.old to.at to.fuel to.registers memory.new out.new) }
+        ensures { MatchOption result ((memory.new ≡ memory.old) × (out.new ≡ out.old)) (λ to. (to.at < 2 ^ 32)
+            × Enters (OfSet S K V.is_of) site input.now state.now.fuel state.now.registers memory.old out.old to.at to.fuel to.registers memory.new out.new) }
     {
         if site == S {
             let to = Self::run::<Apart>(input, memory, out, *state);
@@ -110,7 +112,8 @@ impl<const N: usize, const S: u32, const F: u32, const C: u32, I: Value<N>, V: V
         requires { state.at ≡ 0 }
         ensures less { result.fuel ≤ state.entry.fuel }
         ensures small { result.at < 2 ^ 32 }
-        ensures runs { Runs (OfPut S F C I.is_of V.is_of) input.now state.entry.fuel state.entry.registers memory.old out.old result.at result.fuel result.registers memory.new out.new }
+        ensures runs { Runs (OfPut S F C I.is_of V.is_of) input.now state.entry.fuel state.entry.registers memory.old out.old result.at result.fuel
+            result.registers memory.new out.new }
     {
         let left = state.left_at(S);
         if state.fuel < 1 {
@@ -131,7 +134,9 @@ impl<const N: usize, const S: u32, const F: u32, const C: u32, I: Value<N>, V: V
         state: &State<N>,
     ) -> Option<State<N>>
         requires { state.now.at ≡ 0 }
-        ensures { MatchOption result ((memory.new ≡ memory.old) × (out.new ≡ out.old)) (λ to. (to.at < 2 ^ 32) × Enters (OfPut S F C I.is_of V.is_of) site input.now state.now.fuel state.now.registers memory.old out.old to.at to.fuel to.registers memory.new out.new) }
+        ensures { MatchOption result ((memory.new ≡ memory.old) × (out.new ≡ out.old)) (λ to. (to.at < 2 ^ 32)
+            × Enters (OfPut S F C I.is_of V.is_of) site input.now state.now.fuel state.now.registers memory.old out.old to.at to.fuel to.registers
+            memory.new out.new) }
     {
         if site == S {
             let to = Self::run::<Apart>(input, memory, out, *state);
@@ -148,7 +153,7 @@ fn stored<const N: usize, const F: u32, const C: u32, I: Value<N>, V: Value<N>, 
     memory: &mut [i64],
     registers: &[i64; N],
 ) -> Option<()>
-    ensures { MatchOption result (memory.new ≡ memory.old) (λ _. Stores I.is_of V.is_of F C input.now registers.now memory.old memory.new) }
+    ensures { MatchOption result (memory.new ≡ memory.old) (λ _. StoresElement I.is_of V.is_of F C input.now registers.now memory.old memory.new) }
 {
     let index = I::value::<W>(input, memory, registers)?;
     let value = V::value::<W>(input, memory, registers)?;
@@ -177,7 +182,8 @@ impl<const N: usize, const S: u32, V: Value<N>> Code<N> for Say<S, V> {
         requires { state.at ≡ 0 }
         ensures less { result.fuel ≤ state.entry.fuel }
         ensures small { result.at < 2 ^ 32 }
-        ensures runs { Runs (OfSay S V.is_of) input.now state.entry.fuel state.entry.registers memory.old out.old result.at result.fuel result.registers memory.new out.new }
+        ensures runs { Runs (OfSay S V.is_of) input.now state.entry.fuel state.entry.registers memory.old out.old result.at result.fuel result.registers
+            memory.new out.new }
     {
         let left = state.left_at(S);
         if state.fuel < 1 {
@@ -201,7 +207,8 @@ impl<const N: usize, const S: u32, V: Value<N>> Code<N> for Say<S, V> {
         state: &State<N>,
     ) -> Option<State<N>>
         requires { state.now.at ≡ 0 }
-        ensures { MatchOption result ((memory.new ≡ memory.old) × (out.new ≡ out.old)) (λ to. (to.at < 2 ^ 32) × Enters (OfSay S V.is_of) site input.now state.now.fuel state.now.registers memory.old out.old to.at to.fuel to.registers memory.new out.new) }
+        ensures { MatchOption result ((memory.new ≡ memory.old) × (out.new ≡ out.old)) (λ to. (to.at < 2 ^ 32)
+            × Enters (OfSay S V.is_of) site input.now state.now.fuel state.now.registers memory.old out.old to.at to.fuel to.registers memory.new out.new) }
     {
         if site == S {
             let to = Self::run::<Apart>(input, memory, out, *state);

@@ -4,7 +4,7 @@ ghost use Rattle.std.specs.Prelude.{List, ℕ, IsTrue, length};
 ghost use Rattle.std.specs.Option.{IfSome};
 ghost use Rattle.dp_tree.specs.declared.Program.{Program};
 ghost use Rattle.dp_tree.specs.declared.Expr.{Expr};
-ghost use Rattle.dp_forms.specs.Values.{Evaluates};
+ghost use Rattle.dp_forms.specs.Values.{HasEvaluated};
 
 use dp_tree::{Expr, Program};
 
@@ -19,5 +19,5 @@ pub trait Value<const N: usize> {
 
     /// The expression's value; None stands for a fault. W says for whom the code is made, and nothing else.
     fn value<W>(input: &[i64], memory: &[i64], registers: &[i64; N]) -> Option<i64>
-        ensures { IfSome result (λ v. Evaluates is_of input.now memory.now registers.now v) };
+        ensures { IfSome result (λ v. HasEvaluated is_of input.now memory.now registers.now v) };
 }

@@ -1,22 +1,24 @@
 -- A program that isn't too large has few sites with its calls expanded, and few in each region.
-use Rattle.std.proofs.Common.{◌≡◌, refl, sym, ap, ◌∙◌, ℕ, zero, suc, ◌+◌, ◌≤◌, ◌==◌, Bool, true, false, if◌then◌else◌, List, [], ◌∷◌, ◌++◌, length, append_assoc, append-nil, Option, Some, None, Ok, slice_get, nat_lt, arith}
+use Rattle.std.proofs.Common.{◌≡◌, refl, sym, ap, ◌∙◌, ℕ, zero, suc, ◌+◌, ◌≤◌, ◌==◌, Bool, true, false, if◌then◌else◌, List, [], ◌∷◌, ◌++◌, length}
+use Rattle.std.proofs.Common.{append_assoc, append-nil, Option, Some, None, Ok, slice_get, nat_lt, arith}
 use Rattle.std.specs.List.{list_all}
 use Rattle.std.proofs.lemmas.Bool.{ltb-false, lt-ltb}
 use Rattle.dp_base.specs.declared.Quantity.TheVariants.{InlinedSize, RegionSites}
-use Rattle.dp_base.specs.Counts.{reported}
+use Rattle.dp_base.specs.Counts.{reported_count}
 use Rattle.dp_tree.specs.declared.RegionInfo.{RegionInfo}
 use Rattle.dp_tree.specs.declared.Stmt.{Stmt, Row_of-Stmt, end_of-Stmt, more_of-Stmt}
 use Rattle.dp_tree.specs.declared.Stmt.TheVariants as stmt
 use Rattle.dp_tree.specs.declared.Program.{Program}
 use Rattle.dp_tree.specs.Step.{line_of}
 use Rattle.dp_tree.specs.Functions.{body_in}
-use Rattle.dp_tree.specs.Numbering.{site_numbers, site_numbers_in, site_numbers_all, is_plain, is_inner_in, top_fits, next_region, regions_in_order, is_small_region}
+use Rattle.dp_tree.specs.Numbering.{site_numbers, site_numbers_in, site_numbers_all, is_plain, is_inner_in, top_fits, next_region, regions_in_order}
+use Rattle.dp_tree.specs.Numbering.{is_small_region}
 use Rattle.dp_tree.specs.Scoping.{knows, in_scope, rows_in_scope, all_in_scope, seen_behind, global_numbers}
 use Rattle.dp_tree.specs.Checked.{IsChecked}
 use Rattle.dp_tree.specs.Inlined.{IsInlined}
 use Rattle.dp_tree.proofs.Heads.{and_true, and_make}
 use Rattle.dp_calls.specs.Renaming.{Renamed}
-use Rattle.dp_calls.specs.Tables.{Tables, first_tables, with_source_site, next_site}
+use Rattle.dp_calls.specs.Tables.{Tables, first_tables, with_source_site, new_site}
 use Rattle.dp_calls.specs.Expand.{Piece, expand, expand_one, expand_rows, expand_list, calls_within}
 use Rattle.dp_calls.proofs.InlinedLaws.{expanded_is_inlined}
 use Rattle.dp_calls.proofs.SiteLaws.{is_site, Listed, listed_parts, grows, all_listed}
@@ -25,7 +27,7 @@ use Rattle.dp_calls.proofs.CheckedTexts.{scoped_both}
 use Rattle.dp_inline.specs.declared.fail.InlineFail.{InlineFail}
 use Rattle.dp_inline.specs.declared.fail.InlineFail.TheVariants.{Limit}
 use Rattle.dp_inline.specs.Size.{size_one, size_rows, size_list, size_within, inlined_size, region_size}
-use Rattle.dp_inline.specs.InlineAnswer.{unless, too_large, first_large_region, inline_answer}
+use Rattle.dp_inline.specs.InlineAnswer.{unless_refused, too_large, first_large_region, inline_answer}
 use Rattle.dp_inline.proofs.SiteCount.{count_rows, count_within, sites_counted}
 
 -- a count in which a call itself counts nothing is the smaller one
@@ -54,7 +56,7 @@ fewer_within p zero f = omega arith
 fewer_within p (suc depth) f = fewer_list (size_within p 0 depth) (size_within p 1 depth) (fewer_within p depth) (body_in (slice_get p.functions f))
 
 -- what is answered where a program is given
-nothing_large : (a b : Option InlineFail) (x q : Program) → unless a (unless b (Ok x)) ≡ Ok q → (a ≡ None) × (b ≡ None)
+nothing_large : (a b : Option InlineFail) (x q : Program) → unless_refused a (unless_refused b (Ok x)) ≡ Ok q → (a ≡ None) × (b ≡ None)
 nothing_large None None x q e = (refl, refl)
 nothing_large _ _ x q e = absurd (cc)
 
@@ -69,7 +71,8 @@ module _ (p : Program) (checked : IsChecked p) where
 
   few_sites : too_large p ≡ None → length (expand p).sites ≤ 8192
   few_sites none =
-      let small = ltb-false 8192 (inlined_size p) (not_passed (nat_lt 8192 (inlined_size p)) (Limit InlinedSize (reported (inlined_size p))) None none).0 in
+      let small = ltb-false 8192 (inlined_size p)
+      (not_passed (nat_lt 8192 (inlined_size p)) (Limit InlinedSize (reported_count (inlined_size p))) None none).0 in
       let fewer = fewer_list (size_within p 0 depth) (size_within p 1 depth) (fewer_within p depth) p.main in
       omega (arith, small, fewer, sites_counted p checked)
 
@@ -78,10 +81,12 @@ module _ (p : Program) (checked : IsChecked p) where
   Small t a = (more : List RegionInfo) × ((a.tables.regions ≡ t.regions ++ more) × (list_all is_small_region more ≡ true))
 
   abbrev KeepsSmall : List Stmt → Type 0
-  KeepsSmall all = (r : ℕ) (visible : List ℕ) (names : List Renamed) (t : Tables) → regions_in_order r all ≡ true → Listed p (site_numbers_all all) → all_in_scope p 0 depth visible all ≡ true
+  KeepsSmall all = (r : ℕ) (visible : List ℕ) (names : List Renamed) (t : Tables) → regions_in_order r all ≡ true → Listed p (site_numbers_all all) →
+      all_in_scope p 0 depth visible all ≡ true
       → first_large_region p all ≡ None → Small t (expand_list p (calls_within p depth) 0 all names t)
 
-  small_plain : (s : Stmt) (rest : List Stmt) → KeepsSmall rest → (r : ℕ) (visible : List ℕ) (names : List Renamed) (t : Tables) → is_plain s ≡ true → regions_in_order r rest ≡ true → Listed p (site_numbers_all rest)
+  small_plain : (s : Stmt) (rest : List Stmt) → KeepsSmall rest → (r : ℕ) (visible : List ℕ) (names : List Renamed) (t : Tables) → is_plain s ≡ true →
+      regions_in_order r rest ≡ true → Listed p (site_numbers_all rest)
       → all_in_scope p 0 depth visible rest ≡ true → first_large_region p rest ≡ None → Small t (expand_list p (calls_within p depth) 0 (s ∷ rest) names t)
   small_plain s rest go r visible names t h k l scoped none =
       let one = expand_one p (calls_within p depth) 0 s names t in
@@ -89,18 +94,22 @@ module _ (p : Program) (checked : IsChecked p) where
       let next = go r visible one.names one.tables k l scoped none in
       (next.0, (next.1.0 ∙ ap (λ (xs : List RegionInfo). xs ++ next.0) own.1, next.1.1))
 
-  small_top : (s : Stmt) (rest : List Stmt) → KeepsSmall rest → (r : ℕ) (visible : List ℕ) (names : List Renamed) (t : Tables) → top_fits r s ≡ true → regions_in_order (next_region r s) rest ≡ true
-      → Listed p (site_numbers s) → Listed p (site_numbers_all rest) → in_scope p 0 depth visible s ≡ true → all_in_scope p 0 depth (seen_behind visible s) rest ≡ true
+  small_top : (s : Stmt) (rest : List Stmt) → KeepsSmall rest → (r : ℕ) (visible : List ℕ) (names : List Renamed) (t : Tables) → top_fits r s ≡ true →
+      regions_in_order (next_region r s) rest ≡ true
+      → Listed p (site_numbers s) → Listed p (site_numbers_all rest) → in_scope p 0 depth visible s ≡ true →
+      all_in_scope p 0 depth (seen_behind visible s) rest ≡ true
       → nat_lt 1024 (region_size p s) ≡ false → first_large_region p rest ≡ None → Small t (expand_list p (calls_within p depth) 0 (s ∷ rest) names t)
-  small_top (stmt.Assign site x e) rest go r visible names t h k own l scope scoped small none = small_plain (stmt.Assign site x e) rest go r (seen_behind visible (stmt.Assign site x e)) names t h k l scoped none
+  small_top (stmt.Assign site x e) rest go r visible names t h k own l scope scoped small none =
+      small_plain (stmt.Assign site x e) rest go r (seen_behind visible (stmt.Assign site x e)) names t h k l scoped none
   small_top (stmt.Region' q site cond c a) rest go r visible names t h k own l scope scoped small none =
       let u = with_source_site p q site t in let body = expand_rows p (calls_within p depth) q a names u in
       let listed = and_true (is_site p site.0) (list_all (is_site p) (site_numbers_in a)) own in
       let inner = inner_rows p (calls_within p depth) (plain_within p checked depth) q a names u (and_true (q == r) (is_inner_in a) h).1 in
       let grown : length u.sites ≡ suc (length t.sites) = grows p q site t listed.0 in
-      let counted = count_rows p (calls_within p depth) (size_within p 0 depth) (count_within p checked depth) q a names u listed.1 q depth visible (and_true (knows visible cond) (rows_in_scope p q depth visible a) scope).1 in
+      let counted = count_rows p (calls_within p depth) (size_within p 0 depth) (count_within p checked depth) q a names u listed.1 q depth visible
+      (and_true (knows visible cond) (rows_in_scope p q depth visible a) scope).1 in
       let few = ltb-false 1024 (1 + size_rows 0 (size_within p 0 depth) a) small in
-      let info : RegionInfo = record { line = line_of p site; first = next_site t; last = record { 0 = length body.tables.sites } } in
+      let info : RegionInfo = record { line = line_of p site; first = new_site t; last = record { 0 = length body.tables.sites } } in
       let fits : is_small_region info ≡ true = lt-ltb info.last.0 (info.first.0 + 1024) (omega (arith, grown, counted, few)) in
       let one = expand_one p (calls_within p depth) 0 (stmt.Region' q site cond c a) names t in
       let next = go (r + 1) visible one.names one.tables k l scoped none in (
@@ -119,7 +128,7 @@ module _ (p : Program) (checked : IsChecked p) where
       let both = and_true (top_fits r s) (regions_in_order (next_region r s) rest) h in
       let parts = listed_parts p (site_numbers s) (site_numbers_all rest) l in
       let scope = and_true (in_scope p 0 depth visible s) (all_in_scope p 0 depth (seen_behind visible s) rest) scoped in
-      let small = not_passed (nat_lt 1024 (region_size p s)) (Limit RegionSites (reported (region_size p s))) (first_large_region p rest) none in
+      let small = not_passed (nat_lt 1024 (region_size p s)) (Limit RegionSites (reported_count (region_size p s))) (first_large_region p rest) none in
       small_top s rest (small_list rest) r visible names t both.0 both.1 parts.0 parts.1 scope.0 scope.1 small.0 small.1
 
   few_in_regions : first_large_region p p.main ≡ None → list_all is_small_region (expand p).regions ≡ true

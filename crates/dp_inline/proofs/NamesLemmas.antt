@@ -5,17 +5,19 @@ use Rattle.std.proofs.lemmas.Bool.Decides.{nat_tests}
 use Rattle.std.proofs.lemmas.List.{take_more}
 use Rattle.dp_calls.specs.Renaming.{Renamed, named_in}
 use Rattle.dp_inline.specs.declared.names.Named.{Named}
-use Rattle.dp_inline.specs.Named.{names_of}
+use Rattle.dp_inline.specs.Named.{renamed_names}
 
-pub names_of-push : (rows : List Named) (n : Named) → names_of (rows ++ n ∷ []) ≡ record { source = n.source; target = n.target } ∷ names_of rows
+pub names_of-push : (rows : List Named) (n : Named) → renamed_names (rows ++ n ∷ []) ≡ record { source = n.source; target = n.target } ∷ renamed_names rows
 names_of-push [] n = refl
 names_of-push (m ∷ rows) n = ap (λ (xs : List Renamed). xs ++ record { source = m.source; target = m.target } ∷ []) (names_of-push rows n)
 
 -- one name more
 -- the names before number k + 1, searched for x
 pub found_before : (rows : List Named) (k : ℕ) (d : Named) (x : ℕ) → k < length rows →
-    named_in (names_of (take (k + 1) rows)) x ≡ (if (get_or rows k d).source == x then Some (get_or rows k d).target else named_in (names_of (take k rows)) x)
-found_before rows k d x below = ap (λ (l : List Named). named_in (names_of l) x) (take_more rows k d below) ∙ ap (λ (xs : List Renamed). named_in xs x) (names_of-push (take k rows) (get_or rows k d))
+    named_in (renamed_names (take (k + 1) rows)) x ≡ (if (get_or rows k d).source == x then Some (get_or rows k d).target
+    else named_in (renamed_names (take k rows)) x)
+found_before rows k d x below = ap (λ (l : List Named). named_in (renamed_names l) x) (take_more rows k d below)
+    ∙ ap (λ (xs : List Renamed). named_in xs x) (names_of-push (take k rows) (get_or rows k d))
 
 equal : (a b : ℕ) → a ≡ b → (a == b) ≡ true
 equal a b e = grind (arith, nat_tests)

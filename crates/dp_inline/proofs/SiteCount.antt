@@ -12,7 +12,8 @@ use Rattle.dp_tree.specs.declared.SiteKind.TheVariants.{Assign}
 use Rattle.dp_tree.specs.declared.Program.{Program}
 use Rattle.dp_tree.specs.Functions.{body_in, params_in}
 use Rattle.dp_tree.specs.Numbering.{site_numbers, site_numbers_in, site_numbers_all}
-use Rattle.dp_tree.specs.Scoping.{knows, in_scope, rows_in_scope, all_in_scope, seen_behind, params_in_scope, seen_behind_params, global_numbers, function_in_scope, functions_in_scope}
+use Rattle.dp_tree.specs.Scoping.{knows, in_scope, rows_in_scope, all_in_scope, seen_behind, params_in_scope, seen_behind_params, global_numbers}
+use Rattle.dp_tree.specs.Scoping.{function_in_scope, functions_in_scope}
 use Rattle.dp_tree.specs.Checked.{IsChecked}
 use Rattle.dp_tree.proofs.Heads.{and_true}
 use Rattle.dp_calls.specs.Renaming.{Renamed, named_in}
@@ -23,7 +24,8 @@ use Rattle.dp_calls.proofs.CheckedTexts.{scoped_both}
 use Rattle.dp_inline.specs.Size.{size_one, size_rows, size_list, size_within}
 
 module _ (p : Program) where
-  count_bindings : (r line : ℕ) (caller : List Renamed) (params : List VarId) (args : List Expr) (names : List Renamed) (t : Tables) → length args ≡ length params
+  count_bindings : (r line : ℕ) (caller : List Renamed) (params : List VarId) (args : List Expr) (names : List Renamed) (t : Tables) →
+      length args ≡ length params
       → length (bindings p r line caller params args names t).tables.sites ≡ length t.sites + length args
   count_bindings r line caller [] [] names t e = omega arith
   count_bindings r line caller (x ∷ params) (a ∷ args) names t e =
@@ -36,13 +38,16 @@ module _ (p : Program) where
       omega (arith, rest, grown)
   count_bindings r line caller _ _ names t e = absurd (omega (arith, e))
 
-  module _ (calls : Calls) (c : ℕ → ℕ) (called : (f r : ℕ) (names : List Renamed) (t : Tables) → length (calls f r names t).tables.sites ≡ length t.sites + c f) where
+  module _ (calls : Calls) (c : ℕ → ℕ)
+      (called : (f r : ℕ) (names : List Renamed) (t : Tables) → length (calls f r names t).tables.sites ≡ length t.sites + c f) where
     mutual
-      count_one : (r : ℕ) (s : Stmt) (names : List Renamed) (t : Tables) → Listed p (site_numbers s) → (q n : ℕ) (visible : List ℕ) → in_scope p q n visible s ≡ true
+      count_one : (r : ℕ) (s : Stmt) (names : List Renamed) (t : Tables) → Listed p (site_numbers s) → (q n : ℕ) (visible : List ℕ) →
+          in_scope p q n visible s ≡ true
           → length (expand_one p calls r s names t).tables.sites ≡ length t.sites + size_one 0 c s
       count_one r (stmt.Assign site x e) names t h q n visible k =
           let same = declared_sites p (is_known p (named_in names x.0) x.0) r x.0 names (with_source_site p r site t) in
-          let grown : length (declared_in p r x.0 names (with_source_site p r site t)).tables.sites ≡ suc (length t.sites) = ap length same ∙ grows p r site t (and_true (is_site p site.0) true h).0 in
+          let grown : length (declared_in p r x.0 names (with_source_site p r site t)).tables.sites ≡ suc (length t.sites) = ap length same
+          ∙ grows p r site t (and_true (is_site p site.0) true h).0 in
           omega (arith, grown)
       count_one r (stmt.Store site x index e) names t h q n visible k = let g = grows p r site t (and_true (is_site p site.0) true h).0 in omega (arith, g)
       count_one r (stmt.Print site e) names t h q n visible k = let g = grows p r site t (and_true (is_site p site.0) true h).0 in omega (arith, g)
@@ -51,7 +56,8 @@ module _ (p : Program) where
           let u = with_source_site p r site t in
           let own = and_true (is_site p site.0) (list_all (is_site p) (site_numbers_in a ++ site_numbers_in b)) h in
           let parts = listed_parts p (site_numbers_in a) (site_numbers_in b) own.1 in
-          let both = and_true (rows_in_scope p q n visible a) (rows_in_scope p q n visible b) (and_true (knows visible cond) (rows_in_scope p q n visible a && rows_in_scope p q n visible b) k).1 in
+          let both = and_true (rows_in_scope p q n visible a) (rows_in_scope p q n visible b)
+          (and_true (knows visible cond) (rows_in_scope p q n visible a && rows_in_scope p q n visible b) k).1 in
           let left = expand_rows p calls r a names u in let g = grows p r site t own.0 in
           let l = count_rows r a names u parts.0 q n visible both.0 in
           let m = count_rows r b left.names left.tables parts.1 q n visible both.1 in
@@ -74,7 +80,8 @@ module _ (p : Program) where
           let b = count_bindings r line names params args [] t same in let e = called f r bound.names bound.tables in
           omega (arith, b, e)
 
-      pub count_rows : {m : _} (r : ℕ) (rows : Row_of-Stmt m) (names : List Renamed) (t : Tables) → Listed p (site_numbers_in rows) → (q n : ℕ) (visible : List ℕ) → rows_in_scope p q n visible rows ≡ true
+      pub count_rows : {m : _} (r : ℕ) (rows : Row_of-Stmt m) (names : List Renamed) (t : Tables) → Listed p (site_numbers_in rows) →
+          (q n : ℕ) (visible : List ℕ) → rows_in_scope p q n visible rows ≡ true
           → length (expand_rows p calls r rows names t).tables.sites ≡ length t.sites + size_rows 0 c rows
       count_rows r end_of-Stmt names t h q n visible k = omega arith
       count_rows r (more_of-Stmt s rest) names t h q n visible k =
@@ -84,7 +91,8 @@ module _ (p : Program) where
           let f = count_rows r rest one.names one.tables parts.1 q n (seen_behind visible s) both.1 in
           omega (arith, e, f)
 
-    count_list : (r : ℕ) (all : List Stmt) (names : List Renamed) (t : Tables) → Listed p (site_numbers_all all) → (q n : ℕ) (visible : List ℕ) → all_in_scope p q n visible all ≡ true
+    count_list : (r : ℕ) (all : List Stmt) (names : List Renamed) (t : Tables) → Listed p (site_numbers_all all) → (q n : ℕ) (visible : List ℕ) →
+        all_in_scope p q n visible all ≡ true
         → length (expand_list p calls r all names t).tables.sites ≡ length t.sites + size_list 0 c all
     count_list r [] names t h q n visible k = omega arith
     count_list r (s ∷ rest) names t h q n visible k =
@@ -107,14 +115,17 @@ module _ (p : Program) where
   scoped_body n (fn ∷ fs) (suc f) h = scoped_body (suc n) fs f (and_true (function_in_scope p n fn) (functions_in_scope p (suc n) fs) h).1
 
   module _ (checked : IsChecked p) where
-    pub count_within : (depth f r : ℕ) (names : List Renamed) (t : Tables) → length (calls_within p depth f r names t).tables.sites ≡ length t.sites + size_within p 0 depth f
+    pub count_within : (depth f r : ℕ) (names : List Renamed) (t : Tables) → length (calls_within p depth f r names t).tables.sites ≡ length t.sites
+        + size_within p 0 depth f
     count_within zero f r names t = omega arith
     count_within (suc depth) f r names t =
         let body = scoped_body 0 p.functions f (scoped_both p checked).0 in
-        count_list (calls_within p depth) (size_within p 0 depth) (count_within depth) r (body_in (slice_get p.functions f)) names t (listed_body p p.functions f (all_listed p checked).1) 0 body.0 body.1.0 body.1.1
+        count_list (calls_within p depth) (size_within p 0 depth) (count_within depth) r (body_in (slice_get p.functions f)) names t
+        (listed_body p p.functions f (all_listed p checked).1) 0 body.0 body.1.0 body.1.1
 
     pub sites_counted : length (expand p).sites ≡ size_list 0 (size_within p 0 (length p.functions)) p.main
     sites_counted =
-        let e = count_list (calls_within p (length p.functions)) (size_within p 0 (length p.functions)) (count_within (length p.functions)) 0 p.main [] (first_tables p) (all_listed p checked).0
+        let e = count_list (calls_within p (length p.functions)) (size_within p 0 (length p.functions)) (count_within (length p.functions)) 0 p.main []
+        (first_tables p) (all_listed p checked).0
         0 (length p.functions) (global_numbers p) (scoped_both p checked).1 in
         omega (arith, e)

@@ -61,7 +61,9 @@ module _ (calls : ℕ → ℕ) where
   work_item (x ∷ xs) (suc i) d h = let below : i < length xs = omega arith in let e = work_item xs i d below in omega arith
 
 -- the work of a call is below that of its function's body in a body one deeper
-pub work_called : (p : Program) (depth f : ℕ) (fn : Function) → slice_get p.functions f ≡ Some fn → 0 < depth → work_list (work_within p (depth - 1)) fn.body ≡ work_within p depth f
+pub work_called : (p : Program) (depth f : ℕ) (fn : Function) → slice_get p.functions f ≡ Some fn → 0 < depth →
+    work_list (work_within p (depth - 1)) fn.body ≡ work_within p depth f
 unfolding work_within
 work_called p zero f fn h more = absurd (omega arith)
-work_called p (suc depth) f fn h more = let e : suc depth - 1 ≡ depth = omega arith in ap (λ d. work_list (work_within p d) fn.body) e ∙ ap (λ o. work_list (work_within p depth) (body_in o)) (sym h)
+work_called p (suc depth) f fn h more = let e : suc depth - 1 ≡ depth = omega arith in ap (λ d. work_list (work_within p d) fn.body) e
+    ∙ ap (λ o. work_list (work_within p depth) (body_in o)) (sym h)

@@ -4,6 +4,6 @@ use Rattle.dp_calls.specs.Renaming.{Renamed}
 use Rattle.dp_inline.specs.declared.names.Named.{Named}
 
 -- the names in the opposite order
-abbrev pub names_of : List Named → List Renamed
-names_of [] = []
-names_of (n ∷ rest) = names_of rest ++ record { source = n.source; target = n.target } ∷ []
+abbrev pub renamed_names : List Named → List Renamed
+renamed_names [] = []
+renamed_names (n ∷ rest) = renamed_names rest ++ record { source = n.source; target = n.target } ∷ []

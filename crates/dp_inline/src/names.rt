@@ -23,11 +23,11 @@ pub struct Names {
 impl Model for Names {
     ghost use Rattle.std.specs.Prelude.{List};
     ghost use Rattle.dp_calls.specs.Renaming.{Renamed};
-    ghost use Rattle.dp_inline.specs.Named.{names_of};
+    ghost use Rattle.dp_inline.specs.Named.{renamed_names};
 
     ghost Value = { List Renamed };
 
-    ghost view = { λ names. names_of names.rows };
+    ghost view = { λ names. renamed_names names.rows };
 }
 
 impl Names {

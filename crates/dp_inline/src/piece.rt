@@ -2,7 +2,7 @@
 
 ghost use Rattle.std.specs.Prelude.{◌≡◌, ◌≤◌, ◌^◌, ◌∷◌, [], IfOk, OnErr, OnOk, length as length_of, option_copied, suc};
 ghost use Rattle.dp_calls.specs.Expand.{is_global};
-ghost use Rattle.dp_calls.specs.Tables.{next_site, scope_in};
+ghost use Rattle.dp_calls.specs.Tables.{new_site, scope_in};
 
 use crate::expr::rename;
 use crate::names::Names;
@@ -68,7 +68,8 @@ fn is_file_scope(info: Option<&VarInfo>) -> bool
 }
 
 impl Writer {
-    ghost use Rattle.dp_inline.specs.steps.Written.{written, blank, with_globals, emptied, expr_in, with_statement, with_binding_site, with_text_site, with_new_local, with_declared, with_next_region};
+    ghost use Rattle.dp_inline.specs.steps.Written.{written, blank, with_globals, emptied, expr_in, with_statement, with_binding_site, with_text_site};
+    ghost use Rattle.dp_inline.specs.steps.Written.{with_new_local, with_declared, with_next_region};
 
     /// No text yet.
     pub fn new(alloc: Global) -> Writer
@@ -146,7 +147,7 @@ impl Writer {
 
     /// The number of the next site.
     pub fn next(&self) -> Result<SiteId, NoMemory>
-        ensures value { IfOk result (λ site. site ≡ next_site (written self.now).tables) }
+        ensures value { IfOk result (λ site. site ≡ new_site (written self.now).tables) }
         ensures many { OnErr result (2 ^ 32 ≤ suc (length_of (written self.now).tables.sites)) }
     {
         let before = count(self.sites.len())?;

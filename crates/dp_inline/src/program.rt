@@ -5,7 +5,7 @@ ghost use Rattle.dp_calls.specs.Expand.{expand};
 ghost use Rattle.dp_calls.specs.Tables.{first_tables};
 ghost use Rattle.dp_tree.specs.Checked.{IsChecked};
 ghost use Rattle.dp_tree.specs.Inlined.{IsInlined};
-ghost use Rattle.dp_inline.specs.InlineAnswer.{Gives, inline_answer};
+ghost use Rattle.dp_inline.specs.InlineAnswer.{GivesInlined, inline_answer};
 ghost use Rattle.dp_calls.specs.Meaning.{DoesTheSame};
 ghost use Rattle.dp_inline.specs.steps.Written.{written};
 
@@ -45,7 +45,7 @@ fn expanded(alloc: Global, p: &Program) -> Result<Program, NoMemory>
 /// What is answered for a checked program.
 #[tactic(auto, using(crate::proofs::SizeForms::inline_answers))]
 pub(crate) fn bounded(alloc: Global, p: &Program) -> Result<Program, InlineFail>
-    ensures { IsChecked p.now → Gives (inline_answer p.now) result }
+    ensures { IsChecked p.now → GivesInlined (inline_answer p.now) result }
 {
     within(alloc, p)?;
     Ok(expanded(alloc, p)?)
@@ -56,7 +56,7 @@ pub(crate) fn bounded(alloc: Global, p: &Program) -> Result<Program, InlineFail>
 #[tactic(auto, using(crate::proofs::MeaningLemmas::meanings))]
 pub fn inline(alloc: Global, p: &Program) -> Result<Program, InlineFail>
     requires { IsChecked p.now }
-    ensures gives { Gives (inline_answer p.now) result }
+    ensures gives { GivesInlined (inline_answer p.now) result }
 
     // What is made does the same as the program with call frames, and is ready for the machine and for plans.
     ensures same { IfOk result (DoesTheSame p.now) }

@@ -3,7 +3,7 @@
 ghost use Rattle.std.specs.Prelude.{◌≡◌, ℕ, OnOk, IfOk};
 ghost use Rattle.dp_tree.specs.declared.Stmt.TheVariants as tree;
 ghost use Rattle.dp_tree.specs.Step.{line_of};
-ghost use Rattle.dp_calls.specs.Tables.{next_site};
+ghost use Rattle.dp_calls.specs.Tables.{new_site};
 ghost use Rattle.dp_inline.specs.steps.Written.{written, expr_in, with_text_site, after_one};
 
 use crate::piece::Writer;
@@ -28,7 +28,7 @@ pub fn head(
     site: SiteId,
     cond: &Expr,
 ) -> Result<(SiteId, Expr), NoMemory>
-    ensures number { IfOk result (λ head. head.0 ≡ next_site (written out.old).tables) }
+    ensures number { IfOk result (λ head. head.0 ≡ new_site (written out.old).tables) }
     ensures cond { IfOk result (λ head. head.1 ≡ expr_in (written out.old).names cond.now) }
     ensures after { OnOk result (written out.new ≡ with_text_site p.now region site (written out.old)) }
 {

@@ -1,9 +1,9 @@
 //! How large the expanded program is, counted without making it.
 
 ghost use Rattle.std.specs.Prelude.{◌≡◌, ◌≤◌, [], min, IfOk, Ok};
-ghost use Rattle.dp_base.specs.Counts.{reported};
+ghost use Rattle.dp_base.specs.Counts.{reported_count};
 ghost use Rattle.dp_tree.specs.Checked.{IsChecked};
-ghost use Rattle.dp_inline.specs.InlineAnswer.{Gives, unless, too_large, first_large_region};
+ghost use Rattle.dp_inline.specs.InlineAnswer.{GivesInlined, unless_refused, too_large, first_large_region};
 ghost use Rattle.dp_inline.specs.steps.Counted.{counted, counted_one, counted_list, counted_more, counted_region, first_large};
 
 use crate::InlineFail;
@@ -34,7 +34,7 @@ fn size_at(sizes: &[u32], function: u32) -> u32
 #[cycle(size)]
 fn size_of(each: u32, sizes: &[u32], s: &Stmt) -> u32
     requires { each ≤ 1 }
-    ensures value { result ≡ reported (counted_one each sizes.now s.now) }
+    ensures value { result ≡ reported_count (counted_one each sizes.now s.now) }
     ensures small { result ≤ COUNTED }
 {
     match s {
@@ -65,7 +65,7 @@ fn size_of(each: u32, sizes: &[u32], s: &Stmt) -> u32
 #[cycle(size)]
 fn size_of_all(each: u32, sizes: &[u32], all: &[Stmt]) -> u32
     requires { each ≤ 1 }
-    ensures value { result ≡ reported (counted_list each sizes.now all.now) }
+    ensures value { result ≡ reported_count (counted_list each sizes.now all.now) }
     ensures small { result ≤ COUNTED }
 {
     let mut size = 0;
@@ -91,7 +91,7 @@ fn sizes(alloc: Global, each: u32, p: &Program) -> Result<Row<u32>, NoMemory>
 
 /// The sites of a region. A statement that is no region has none.
 fn region_size(sizes: &[u32], s: &Stmt) -> u32
-    ensures { result ≡ reported (counted_region sizes.now s.now) }
+    ensures { result ≡ reported_count (counted_region sizes.now s.now) }
 {
     match s {
         Stmt::Region { .. } => size_of(0, sizes, s),
@@ -114,7 +114,7 @@ fn large_region(sizes: &[u32], all: &[Stmt]) -> Option<u32>
 
 /// No count of the expanded program is above its limit.
 pub fn within(alloc: Global, p: &Program) -> Result<(), InlineFail>
-    ensures { IsChecked p.now → Gives (unless (too_large p.now) (unless (first_large_region p.now p.now.main) (Ok tt))) result }
+    ensures { IsChecked p.now → GivesInlined (unless_refused (too_large p.now) (unless_refused (first_large_region p.now p.now.main) (Ok tt))) result }
 {
     let counts = sizes(alloc, 1, p)?;
     let count = size_of_all(1, counts.as_slice(), p.main.as_slice());

@@ -113,7 +113,8 @@ fn block(
     all: &Row<Stmt>,
 ) -> Result<Row<Stmt>, NoMemory>
     ensures code { IfOk result (λ code. code ≡ (after_list p.now depth region (emptied (written out.old)) all.now).code) }
-    ensures after { OnOk result (written out.new ≡ record (after_list p.now depth region (emptied (written out.old)) all.now) { code = (written out.old).code }) }
+    ensures after { OnOk result (written out.new ≡ record (after_list p.now depth region (emptied (written out.old)) all.now)
+        { code = (written out.old).code }) }
 {
     let before = out.begin_block();
     statements(p, depth, region, out, all.as_slice())?;

@@ -1,5 +1,6 @@
 -- Where the judging begins a batch.
-use Rattle.dp_semantics.proofs.Names.{◌≡◌, refl, sym, ap, ◌∙◌, subst, arith, ℕ, zero, suc, ◌+◌, ◌-◌, ◌<◌, Bool, List, [], ◌∷◌, ℤ, length, length-map, map, take, get_or, Program, Plan, Stmt, Load}
+use Rattle.dp_semantics.proofs.Names.{◌≡◌, refl, sym, ap, ◌∙◌, subst, arith, ℕ, zero, suc, ◌+◌, ◌-◌, ◌<◌, Bool, List, [], ◌∷◌, ℤ, length, length-map, map, take}
+use Rattle.dp_semantics.proofs.Names.{get_or, Program, Plan, Stmt, Load}
 use Rattle.dp_tree.specs.Numbering.{numbers_from}
 use Rattle.dp_plan.specs.Access.{first_site, stage_of}
 use Rattle.dp_semantics.specs.Judge.{last}
@@ -15,26 +16,26 @@ use Rattle.dp_columns.specs.declared.ColumnKind.{ColumnKind}
 use Rattle.dp_columns.specs.Left.{Left}
 use Rattle.dp_lean_turn.specs.Left.{all_kinds}
 use Rattle.dp_lean_judge.specs.Shown.{reader_at}
-use Rattle.dp_lean_judge.specs.Ready.{AllKept, IsReady}
+use Rattle.dp_lean_judge.specs.Ready.{AllKept, JudgeIsReady}
 use Rattle.dp_lean_epoch.specs.LeanBatch.{Stood, IsLeanBatch, no_columns, queue_among, loads_among, steps_among}
 use Rattle.dp_lean_epoch.specs.LeanBatch as batch
-use Rattle.dp_lean_epoch.specs.Coming.{Coming, LoadsComing}
+use Rattle.dp_lean_epoch.specs.Coming.{QueuesBring, LoadsComing}
 use Rattle.dp_lean_epoch.specs.Laws.{QueuesCome}
-use Rattle.dp_lean_region.specs.LeanEpoch.{LeanEpoch, marks_in, kept_in, begin_in, size_in}
+use Rattle.dp_lean_region.specs.LeanEpoch.{LeanEpoch, epoch_marks, kept_in, begin_in, size_in}
 use Rattle.dp_lean_kinds.specs.ColumnKinds.{region_kinds}
 use Rattle.dp_lean_region.specs.Judging.{IsJudging}
-use Rattle.dp_lean_region.specs.Line.{IsLineOf, line_kinds, program_of, plan_of}
+use Rattle.dp_lean_region.specs.Line.{IsLineOf, line_kinds, line_program, line_plan}
 use Rattle.dp_lean_region.specs.declared.line.JudgeTables.{JudgeTables}
 use Rattle.dp_lean_region.specs.declared.line.Line.{Line}
 use Rattle.dp_lean_machine.specs.Held.{held_in, kinds_in}
 use Rattle.dp_lean_machine.specs.Within.{read_of}
-use Rattle.dp_lean_machine.specs.Sent.{IsSent, Unless, AsStatus, item_of}
+use Rattle.dp_lean_machine.specs.Sent.{IsSent, Unless, AsStatus, item_sent}
 use Rattle.dp_lean_machine.specs.declared.batch.BatchStatus.{BatchStatus}
 use Rattle.dp_lean_machine.specs.declared.batch.BatchStatus.TheVariants as status
 use Rattle.dp_lean_machine.specs.declared.batch.StageColumns.{StageColumns}
 use Rattle.dp_lean_machine.specs.declared.batch.LeanBatch.{LeanBatch}
 use Rattle.dp_judge.specs.Judging.{Judges}
-use Rattle.dp_judge.specs.Verdicts.{Stands}
+use Rattle.dp_judge.specs.Verdicts.{JudgingStands}
 use Rattle.dp_judge.specs.steps.Within.{JudgesBy, CameIn, CameTo, CleanTo, Within}
 use Rattle.dp_judge.specs.declared.court.LeanCourt.{LeanCourt}
 use Rattle.dp_judge.specs.declared.judging.Decision.{Decision}
@@ -46,7 +47,8 @@ kinds_read [] = refl
 kinds_read (c ∷ cs) = ap (λ (ks : List (List ColumnKind)). kinds_in c ∷ ks) (kinds_read cs)
 
 -- the readers are of the kinds for which the judge's code is ready
-pub kept_there : (line : Line) (tables : JudgeTables) → IsJudging (program_of line) (plan_of line) tables → (cs : List StageColumns) → map kinds_in cs ≡ line_kinds line →
+pub kept_there : (line : Line) (tables : JudgeTables) → IsJudging (line_program line) (line_plan line) tables → (cs : List StageColumns) →
+    map kinds_in cs ≡ line_kinds line →
     (readers : List Left) → readers ≡ map read_of cs → AllKept readers tables.ready.now.entries
 kept_there line tables judging cs kinds readers are = judging.kept readers (ap all_kinds are ∙ kinds_read cs ∙ kinds)
 
@@ -71,12 +73,16 @@ numbers_many k zero = refl
 numbers_many k (suc n) = ap suc (numbers_many (k + 1) n)
 
 -- the judge's tables are those of the epoch
-pub judges_by : (e : LeanEpoch) (line : Line) → IsLineOf e line → (tables : JudgeTables) → IsJudging (program_of line) (plan_of line) tables → JudgesBy e tables
+pub judges_by : (e : LeanEpoch) (line : Line) → IsLineOf e line → (tables : JudgeTables) →
+    IsJudging (line_program line) (line_plan line) tables → JudgesBy e tables
 judges_by e line of tables judging = record {
   ready =
-      subst (λ (pays : List Stmt → Bool). IsReady e.key.program e.key.plan (lean_code e.key.program e.key.plan (last e.key.plan) (marks_of e.key.program e.key.plan pays)) tables.ready.now) (sym of.pays)
-      (subst (λ (plan : Plan). IsReady e.key.program plan (lean_code e.key.program plan (last plan) (paying_marks e.key.program plan)) tables.ready.now) of.plan
-      (subst (λ (p : Program). IsReady p (plan_of line) (lean_code p (plan_of line) (last (plan_of line)) (paying_marks p (plan_of line))) tables.ready.now) of.program judging.ready));
+      subst (λ (pays : List Stmt → Bool). JudgeIsReady e.key.program e.key.plan (lean_code e.key.program e.key.plan (last e.key.plan)
+      (marks_of e.key.program e.key.plan pays)) tables.ready.now) (sym of.pays)
+      (subst (λ (plan : Plan). JudgeIsReady e.key.program plan (lean_code e.key.program plan (last plan) (paying_marks e.key.program plan))
+      tables.ready.now) of.plan
+      (subst (λ (p : Program). JudgeIsReady p (line_plan line) (lean_code p (line_plan line) (last (line_plan line)) (paying_marks p (line_plan line)))
+      tables.ready.now) of.program judging.ready));
   locals = judging.locals ∙ (λ i. local_cells (of.plan i).region (of.program i).vars);
 }
 
@@ -88,7 +94,7 @@ module _ (e : LeanEpoch) (b : ℕ) (court : LeanCourt) (at : Judges court e b) w
       record {
         few = omega arith;
         goes = subst (GoesOnTo e.key) first at.goes;
-        stands = subst (λ (i : ℕ). Stands e i court.bench.left court.bench.cells) first at.stands;
+        stands = subst (λ (i : ℕ). JudgingStands e i court.bench.left court.bench.cells) first at.stands;
         told = told_none e b;
         onward = λ i v is. absurd (cc is);
         count = refl;
@@ -99,10 +105,11 @@ module _ (e : LeanEpoch) (b : ℕ) (court : LeanCourt) (at : Judges court e b) w
     all = length e.key.plan.stages
 
     abbrev Item : NetStatus → Type 0
-    Item ends = IsLeanBatch (marks_in e) e.key (kept_in e) e.cap all b (item_of all ends x)
+    Item ends = IsLeanBatch (epoch_marks e) e.key (kept_in e) e.cap all b (item_sent all ends x)
 
-    stands_so : (ends : NetStatus) → Item ends → batch.Stands (marks_in e) e.key all (begin_in e b) (size_in e b) (record { iterations = x.iterations; ends = ends })
-    stands_so ends item = subst (batch.Stands (marks_in e) e.key all (begin_in e b) (size_in e b)) (sym item.stood) (at.epoch.laws.stand all b).each
+    stands_so : (ends : NetStatus) → Item ends → batch.IterationsStand (epoch_marks e) e.key all (begin_in e b) (size_in e b)
+        (record { iterations = x.iterations; ends = ends })
+    stands_so ends item = subst (batch.IterationsStand (epoch_marks e) e.key all (begin_in e b) (size_in e b)) (sym item.stood) (at.epoch.laws.stand all b).each
 
     -- how the last iteration stands says what follows
     left_so : (s : BatchStatus) → Unless s Item → AsLeft e b x.iterations s
@@ -123,8 +130,9 @@ module _ (e : LeanEpoch) (b : ℕ) (court : LeanCourt) (at : Judges court e b) w
     stages_many : length x.stages ≡ all
     stages_many =
         sym (length-map x.stages kinds_in) ∙ ap length x.kinds
-        ∙ length-map (numbers_from 1 (length (plan_of x.line).stages)) (region_kinds (program_of x.line) (plan_of x.line) (paying_marks (program_of x.line) (plan_of x.line)))
-        ∙ numbers_many 1 (length (plan_of x.line).stages) ∙ ap (λ (plan : Plan). length plan.stages) sent.line.plan
+        ∙ length-map (numbers_from 1 (length (line_plan x.line).stages)) (region_kinds (line_program x.line) (line_plan x.line)
+        (paying_marks (line_program x.line) (line_plan x.line)))
+        ∙ numbers_many 1 (length (line_plan x.line).stages) ∙ ap (λ (plan : Plan). length plan.stages) sent.line.plan
 
     stages_whole : take all x.stages ≡ x.stages
     stages_whole = take_whole x.stages all stages_many
@@ -133,8 +141,8 @@ module _ (e : LeanEpoch) (b : ℕ) (court : LeanCourt) (at : Judges court e b) w
       item : Item ends
       item = item_by x.status ends like sent.item
 
-      come : QueuesCome (marks_in e) e.key (kept_in e) e.cap all b (item_of all ends x)
-      come = at.epoch.laws.come at.epoch.enough e.cap all b (item_of all ends x) item
+      come : QueuesCome (epoch_marks e) e.key (kept_in e) e.cap all b (item_sent all ends x)
+      come = at.epoch.laws.come at.epoch.enough e.cap all b (item_sent all ends x) item
 
       pub came_in : CameIn e b x.iterations x.stages
       came_in = record {
@@ -157,24 +165,29 @@ module _ (e : LeanEpoch) (b : ℕ) (court : LeanCourt) (at : Judges court e b) w
               loads = loads_among e.key (map held_in x.stages);
               more_loads = (come.loads refl).0;
               shows = record {
-                told = λ y low. ap (λ (lists : List (List Told)). get_or lists (y - first_site e.key.program e.key.plan) []) (told_shown x.stages (stage_of e.key.program e.key.plan y - 1));
-                loaded = λ y low. ap (λ (lists : List (List (List Load))). get_or lists (y - first_site e.key.program e.key.plan) []) (loads_shown x.stages (stage_of e.key.program e.key.plan y - 1));
+                told = λ y low. ap (λ (lists : List (List Told)). get_or lists (y - first_site e.key.program e.key.plan) [])
+                    (told_shown x.stages (stage_of e.key.program e.key.plan y - 1));
+                loaded = λ y low. ap (λ (lists : List (List (List Load))). get_or lists (y - first_site e.key.program e.key.plan) [])
+                    (loads_shown x.stages (stage_of e.key.program e.key.plan y - 1));
               };
               told =
-                  subst (λ (k : ℕ). Coming (marks_in e) e.key all k (x.iterations - 0) (queue_among e.key (map held_in x.stages)) come.told.0) first
-                  (subst (λ (j : ℕ). Coming (marks_in e) e.key all (begin_in e b) j (queue_among e.key (map held_in x.stages)) come.told.0) rest
-                  (subst (λ (xs : List StageColumns). Coming (marks_in e) e.key all (begin_in e b) x.iterations (queue_among e.key (map held_in xs)) come.told.0) stages_whole come.told.1));
+                  subst (λ (k : ℕ). QueuesBring (epoch_marks e) e.key all k (x.iterations - 0) (queue_among e.key (map held_in x.stages)) come.told.0) first
+                  (subst (λ (j : ℕ). QueuesBring (epoch_marks e) e.key all (begin_in e b) j (queue_among e.key (map held_in x.stages)) come.told.0) rest
+                  (subst (λ (xs : List StageColumns). QueuesBring (epoch_marks e) e.key all (begin_in e b) x.iterations (queue_among e.key (map held_in xs))
+                  come.told.0) stages_whole come.told.1));
               loaded =
-                  subst (λ (k : ℕ). LoadsComing (marks_in e) e.key k (x.iterations - 0) (loads_among e.key (map held_in x.stages)) (come.loads refl).0) first
-                  (subst (λ (j : ℕ). LoadsComing (marks_in e) e.key (begin_in e b) j (loads_among e.key (map held_in x.stages)) (come.loads refl).0) rest
-                  (subst (λ (xs : List StageColumns). LoadsComing (marks_in e) e.key (begin_in e b) x.iterations (loads_among e.key (map held_in xs)) (come.loads refl).0) stages_whole (come.loads refl).1));
+                  subst (λ (k : ℕ). LoadsComing (epoch_marks e) e.key k (x.iterations - 0) (loads_among e.key (map held_in x.stages)) (come.loads refl).0) first
+                  (subst (λ (j : ℕ). LoadsComing (epoch_marks e) e.key (begin_in e b) j (loads_among e.key (map held_in x.stages)) (come.loads refl).0) rest
+                  (subst (λ (xs : List StageColumns). LoadsComing (epoch_marks e) e.key (begin_in e b) x.iterations (loads_among e.key (map held_in xs))
+                  (come.loads refl).0) stages_whole (come.loads refl).1));
             };
           }
 
       -- so many iterations are decided over readers of all that the stages told
       pub decided_so : (n : ℕ) → n ≡ x.iterations → (stages : List StageColumns) → stages ≡ x.stages → (readers : List Left) → readers ≡ map read_of stages →
           (told : List Verdict) → told ≡ [] → (d : Decision) (left : ℕ) (cells : List ℤ) (told_new : List Verdict) →
-          (CameIn e b n stages → Within e b n 0 court.bench.left court.bench.cells readers told → CameTo e b n d left cells told_new) → CameTo e b x.iterations d left cells told_new
+          (CameIn e b n stages → Within e b n 0 court.bench.left court.bench.cells readers told → CameTo e b n d left cells told_new) →
+          CameTo e b x.iterations d left cells told_new
       decided_so n many stages are readers read told none d left cells told_new gives =
           subst (λ (k : ℕ). CameTo e b k d left cells told_new) many
           (gives (subst (λ (k : ℕ). CameIn e b k stages) (sym many) (subst (CameIn e b x.iterations) (sym are) came_in))

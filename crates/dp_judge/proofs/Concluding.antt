@@ -3,14 +3,14 @@ use Rattle.dp_semantics.proofs.Names.{◌≡◌, sym, ap, ◌∙◌, subst, appe
 use Rattle.dp_base.specs.declared.Cause.{Cause}
 use Rattle.dp_semantics.specs.EpochVerdicts.{Again, verdict_at}
 use Rattle.dp_net.specs.NetVerdicts.{GoesOnTo}
-use Rattle.dp_judge.specs.Told.{Says}
+use Rattle.dp_judge.specs.Told.{SaysDecided}
 use Rattle.dp_judge.specs.declared.verdict.Verdict.{Verdict}
 use Rattle.dp_judge.specs.declared.verdict.Verdict.TheVariants.{Unclean, NoMemory}
 use Rattle.dp_lean_region.specs.LeanEpoch.{LeanEpoch, begin_in, size_in}
 use Rattle.dp_lean_machine.specs.declared.batch.BatchStatus.{BatchStatus}
 use Rattle.dp_lean_machine.specs.declared.batch.BatchStatus.TheVariants as status
-use Rattle.dp_judge.specs.Decided.{ending}
-use Rattle.dp_judge.specs.Verdicts.{Stands, AreTold, EachGoesOn}
+use Rattle.dp_judge.specs.Decided.{end_verdicts}
+use Rattle.dp_judge.specs.Verdicts.{JudgingStands, AreTold, EachGoesOn}
 use Rattle.dp_judge.specs.steps.Within.{CleanTo, CameTo}
 use Rattle.dp_judge.specs.steps.Deciding.{end_of_decision}
 use Rattle.dp_judge.specs.declared.judging.Decision.{Decision}
@@ -30,21 +30,22 @@ module _ (e : LeanEpoch) (b n : ℕ) where
   module _ (left : ℕ) (cells : List ℤ) (told : List Verdict) where
     -- all that is to be told, and where the judging stands then
     pub record Concludes (s : BatchStatus) (end : ToldEnd) : Type 0 where
-      pub verdicts : AreTold e b (told ++ ending end)
-      pub stands : Stands e (begin_in e b + length told) left cells
-      pub next : s ≡ status.Going → EachGoesOn (told ++ ending end) → (length (told ++ ending end) ≡ size_in e b) × GoesOnTo e.key (begin_in e b + size_in e b)
-          × Stands e (begin_in e b + size_in e b) left cells
+      pub verdicts : AreTold e b (told ++ end_verdicts end)
+      pub stands : JudgingStands e (begin_in e b + length told) left cells
+      pub next : s ≡ status.Going → EachGoesOn (told ++ end_verdicts end) → (length (told ++ end_verdicts end) ≡ size_in e b)
+          × GoesOnTo e.key (begin_in e b + size_in e b)
+          × JudgingStands e (begin_in e b + size_in e b) left cells
 
     -- with one behind which none follows
-    with_last : (place : ℕ) → CleanTo e b place left cells told → (v : Verdict) → Says e.key v (verdict_at e.key (begin_in e b + place)) →
+    with_last : (place : ℕ) → CleanTo e b place left cells told → (v : Verdict) → SaysDecided e.key v (verdict_at e.key (begin_in e b + place)) →
         AreTold e b (told ++ v ∷ [])
     with_last place clean v says =
         told_more e b told clean.told clean.onward (let few = clean.few in let count = clean.count in omega (arith, few, count))
         (subst (λ (i : ℕ). GoesOnTo e.key (begin_in e b + i)) (sym clean.count) clean.goes) v
-        (subst (λ (i : ℕ). Says e.key v (verdict_at e.key (begin_in e b + i))) (sym clean.count) says)
+        (subst (λ (i : ℕ). SaysDecided e.key v (verdict_at e.key (begin_in e b + i))) (sym clean.count) says)
 
-    stands_then : (place : ℕ) → CleanTo e b place left cells told → Stands e (begin_in e b + length told) left cells
-    stands_then place clean = subst (λ (i : ℕ). Stands e (begin_in e b + i) left cells) (sym clean.count) clean.stands
+    stands_then : (place : ℕ) → CleanTo e b place left cells told → JudgingStands e (begin_in e b + length told) left cells
+    stands_then place clean = subst (λ (i : ℕ). JudgingStands e (begin_in e b + i) left cells) (sym clean.count) clean.stands
 
     unclean : (s : BatchStatus) (place : ℕ) → CleanTo e b place left cells told → (cause : Cause) × (Again cause ≡ verdict_at e.key (begin_in e b + place)) →
         Concludes s ends.Unclean
@@ -68,7 +69,7 @@ module _ (e : LeanEpoch) (b n : ℕ) where
       next = λ goes all. (
         ap length (append-nil told) ∙ clean.count ∙ whole goes,
         subst (λ (i : ℕ). GoesOnTo e.key (begin_in e b + i)) (whole goes) clean.goes,
-        subst (λ (i : ℕ). Stands e (begin_in e b + i) left cells) (whole goes) clean.stands,
+        subst (λ (i : ℕ). JudgingStands e (begin_in e b + i) left cells) (whole goes) clean.stands,
       );
     }
 

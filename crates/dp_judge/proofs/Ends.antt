@@ -14,7 +14,7 @@ use Rattle.dp_lean_judge.specs.JudgeState.{JudgeEnd}
 use Rattle.dp_lean_judge.specs.JudgeState as end
 use Rattle.dp_lean_judge.specs.Laws.{SaysSame}
 use Rattle.dp_lean_judge.specs.Shown.{ShowsQueues}
-use Rattle.dp_lean_judge.specs.Judged.{Judged}
+use Rattle.dp_lean_judge.specs.Judged.{JudgingEnds}
 use Rattle.dp_lean_judge.specs.declared.collected.Collected.{Collected}
 use Rattle.dp_lean_judge.specs.declared.judge.LeanJudged.TheVariants as judged
 use Rattle.dp_lean_epoch.specs.JudgeSteps.{again_at, lean_verdict_by}
@@ -31,7 +31,7 @@ module _ (p : Program) (plan : Plan) (cells : List ℤ) (readers : List Left) (c
     pub prints : collected.prints ≡ filter_map printed_by judging.effects
 
   pub held : (tells closing : Bool) (e : JudgeEnd) (judgement : LeanJudgement) → SaysSame e judgement →
-      Judged p plan tells e (judged.Holds closing) cells readers collected → Held closing judgement
+      JudgingEnds p plan tells e (judged.Holds closing) cells readers collected → Held closing judgement
   held tells closing (end.Holds c) (lean.Holds f) same is = record {
     judging = f;
     is = refl;
@@ -48,7 +48,7 @@ module _ (p : Program) (plan : Plan) (cells : List ℤ) (readers : List Left) (c
   held tells closing end.Differs judgement same is = absurd is
 
   pub differs : (tells : Bool) (e : JudgeEnd) (judgement : LeanJudgement) → SaysSame e judgement →
-      Judged p plan tells e judged.Differs cells readers collected → judgement ≡ lean.Differs
+      JudgingEnds p plan tells e judged.Differs cells readers collected → judgement ≡ lean.Differs
   differs tells (end.Holds c) judgement same is = absurd is
   differs tells end.Differs (lean.Holds f) same is = absurd same
   differs tells end.Differs lean.Differs same is = refl

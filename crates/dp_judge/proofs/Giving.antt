@@ -1,5 +1,6 @@
 -- The clean iterations that weren't given yet.
-use Rattle.std.proofs.Common.{◌≡◌, ◌&&◌, Bool, not, refl, sym, ap, ◌∙◌, arith, ℕ, zero, suc, ◌+◌, ◌≤◌, List, [], ◌∷◌, ◌++◌, ℤ, length, take, drop, sum_by, min, Some, slice_get, drop-drop, inl, inr, nat_le, le-leb, leb-true}
+use Rattle.std.proofs.Common.{◌≡◌, ◌&&◌, Bool, not, refl, sym, ap, ◌∙◌, arith, ℕ, zero, suc, ◌+◌, ◌≤◌, List, [], ◌∷◌, ◌++◌, ℤ, length, take, drop, sum_by, min}
+use Rattle.std.proofs.Common.{Some, slice_get, drop-drop, inl, inr, nat_le, le-leb, leb-true}
 use Rattle.std.proofs.lemmas.List.{take-append-le, drop-append-le, length-drop}
 use Rattle.std.proofs.lemmas.List.Sums.{sum_by-cons}
 use Rattle.std.proofs.lemmas.Bool.{cases_Bool, cases_lt}
@@ -12,7 +13,7 @@ use Rattle.dp_judge.specs.Told.{goes_on_behind}
 use Rattle.dp_judge.specs.declared.verdict.Verdict.{Verdict}
 use Rattle.dp_judge.specs.declared.verdict.Verdict.TheVariants.{Clean}
 use Rattle.dp_columns.proofs.Places.{rest_at}
-use Rattle.dp_judge.specs.Decided.{cleans, cleans_from, ending, left_to_give}
+use Rattle.dp_judge.specs.Decided.{cleans, cleans_from, end_verdicts, left_to_give}
 use Rattle.dp_judge.specs.steps.Adding.{IsUngiven, none_closing}
 use Rattle.dp_judge.specs.declared.told.Part.{Part}
 use Rattle.dp_judge.specs.declared.told.ToldBatch.{ToldBatch}
@@ -46,7 +47,8 @@ abbrev part : Part → List StoreOf → List ℤ → Verdict
 part p stores prints = Clean (record { stores = stores; prints = prints; steps = p.steps; closing = p.closing })
 
 -- what stands behind all stores and prints of the parts is no part's
-pub front_cleans : (parts : List Part) (stores more : List StoreOf) (prints others : List ℤ) → stores_of parts ≡ length stores → prints_of parts ≡ length prints →
+pub front_cleans : (parts : List Part) (stores more : List StoreOf) (prints others : List ℤ) → stores_of parts ≡ length stores →
+    prints_of parts ≡ length prints →
     cleans_from parts (stores ++ more) (prints ++ others) ≡ cleans_from parts stores prints
 front_cleans [] stores more prints others all all_prints = refl
 front_cleans (p ∷ rest) stores more prints others all all_prints =
@@ -64,12 +66,15 @@ front_cleans (p ∷ rest) stores more prints others all all_prints =
     (front_left StoreOf p.stores (stores_of rest) stores first) (front_left ℤ p.prints (prints_of rest) prints first_prints))
 
 -- one part more has what stands there
-pub more_cleans : (parts : List Part) (stores more : List StoreOf) (prints others : List ℤ) (last : Part) → last.stores ≡ length more → last.prints ≡ length others →
+pub more_cleans : (parts : List Part) (stores more : List StoreOf) (prints others : List ℤ) (last : Part) → last.stores ≡ length more →
+    last.prints ≡ length others →
     stores_of parts ≡ length stores → prints_of parts ≡ length prints →
     cleans_from (parts ++ last ∷ []) (stores ++ more) (prints ++ others) ≡ cleans_from parts stores prints ++ part last more others ∷ []
 more_cleans [] stores more prints others last is is_prints all all_prints =
-    let own = ap (λ (n : ℕ). take n (stores ++ more)) is ∙ ap (λ (xs : List StoreOf). take (length more) (xs ++ more)) (none_left StoreOf stores all) ∙ take-length more in
-    let own_prints = ap (λ (n : ℕ). take n (prints ++ others)) is_prints ∙ ap (λ (zs : List ℤ). take (length others) (zs ++ others)) (none_left ℤ prints all_prints) ∙ take-length others in
+    let own = ap (λ (n : ℕ). take n (stores ++ more)) is ∙ ap (λ (xs : List StoreOf). take (length more) (xs ++ more)) (none_left StoreOf stores all)
+    ∙ take-length more in
+    let own_prints = ap (λ (n : ℕ). take n (prints ++ others)) is_prints ∙ ap (λ (zs : List ℤ). take (length others) (zs ++ others))
+    (none_left ℤ prints all_prints) ∙ take-length others in
     λ i. part last (own i) (own_prints i) ∷ []
 more_cleans (p ∷ rest) stores more prints others last is is_prints all all_prints =
     let first = sym (sum_by-cons (λ (q : Part). q.stores) p rest) ∙ all in
@@ -103,18 +108,22 @@ drop_within X xs n = elim (cases_Bool (nat_le n (length xs))) [
 
 -- behind the next part the others are left
 pub pass_cleans : (parts : List Part) (stores : List StoreOf) (prints : List ℤ) (given from from_prints given_new from_new from_prints_new : ℕ) (p : Part) →
-    slice_get parts given ≡ Some p → given_new ≡ suc given → from_new ≡ min (from + p.stores) (length stores) → from_prints_new ≡ min (from_prints + p.prints) (length prints) →
+    slice_get parts given ≡ Some p → given_new ≡ suc given → from_new ≡ min (from + p.stores) (length stores) →
+    from_prints_new ≡ min (from_prints + p.prints) (length prints) →
     cleans_from (drop given parts) (drop from stores) (drop from_prints prints)
     ≡ part p (take p.stores (drop from stores)) (take p.prints (drop from_prints prints))
     ∷ cleans_from (drop given_new parts) (drop from_new stores) (drop from_prints_new prints)
 pass_cleans parts stores prints given from from_prints given_new from_new from_prints_new p is given_is from_is from_prints_is =
     let behind = drop-drop p.stores from stores ∙ sym (drop_within StoreOf stores (from + p.stores)) ∙ ap (λ (n : ℕ). drop n stores) (sym from_is) in
-    let behind_prints = drop-drop p.prints from_prints prints ∙ sym (drop_within ℤ prints (from_prints + p.prints)) ∙ ap (λ (n : ℕ). drop n prints) (sym from_prints_is) in
+    let behind_prints = drop-drop p.prints from_prints prints ∙ sym (drop_within ℤ prints (from_prints + p.prints))
+    ∙ ap (λ (n : ℕ). drop n prints) (sym from_prints_is) in
     ap (λ (ps : List Part). cleans_from ps (drop from stores) (drop from_prints prints)) (rest_at parts given p is)
-    ∙ (λ i. part p (take p.stores (drop from stores)) (take p.prints (drop from_prints prints)) ∷ cleans_from (drop (sym given_is i) parts) (behind i) (behind_prints i))
+    ∙ (λ i. part p (take p.stores (drop from stores)) (take p.prints (drop from_prints prints)) ∷ cleans_from (drop (sym given_is i) parts)
+    (behind i) (behind_prints i))
 
 -- What stands behind those of a batch of which none was given yet is none's; and one part more has it.
-module _ (t u : ToldBatch) (whole : IsUngiven t) (given : u.given ≡ t.given) (stores_given : u.stores_given ≡ t.stores_given) (prints_given : u.prints_given ≡ t.prints_given)
+module _ (t u : ToldBatch) (whole : IsUngiven t) (given : u.given ≡ t.given) (stores_given : u.stores_given ≡ t.stores_given)
+    (prints_given : u.prints_given ≡ t.prints_given)
     (more : List StoreOf) (stores : u.stores ≡ t.stores ++ more) (others : List ℤ) (prints : u.prints ≡ t.prints ++ others) where
   opened : cleans u ≡ cleans_from u.parts (t.stores ++ more) (t.prints ++ others)
   opened =
@@ -139,8 +148,8 @@ module _ (t u : ToldBatch) (whole : IsUngiven t) (given : u.given ≡ t.given) (
 pub next_there : (t : ToldBatch) (p : Part) → slice_get t.parts t.given ≡ Some p → (v : Verdict) × (rest : List Verdict) × (left_to_give t ≡ v ∷ rest)
 next_there t p is = (
   part p (take p.stores (drop t.stores_given t.stores)) (take p.prints (drop t.prints_given t.prints)),
-  cleans_from (drop (suc t.given) t.parts) (drop p.stores (drop t.stores_given t.stores)) (drop p.prints (drop t.prints_given t.prints)) ++ ending t.end,
-  ap (λ (ps : List Part). cleans_from ps (drop t.stores_given t.stores) (drop t.prints_given t.prints) ++ ending t.end) (rest_at t.parts t.given p is),
+  cleans_from (drop (suc t.given) t.parts) (drop p.stores (drop t.stores_given t.stores)) (drop p.prints (drop t.prints_given t.prints)) ++ end_verdicts t.end,
+  ap (λ (ps : List Part). cleans_from ps (drop t.stores_given t.stores) (drop t.prints_given t.prints) ++ end_verdicts t.end) (rest_at t.parts t.given p is),
 )
 
 -- the next place
@@ -158,7 +167,9 @@ cleans_go [] stores prints = refl
 cleans_go (p ∷ rest) stores prints = ap (λ (t : Bool). not p.closing && t) (cleans_go rest (drop p.stores stores) (drop p.prints prints))
 
 -- the epoch goes on behind what is left where no part closes and nothing stands behind them
-pub goes_on_so : (t : ToldBatch) → (none_closing (drop t.given t.parts) && list_all goes_on_behind (ending t.end)) ≡ list_all goes_on_behind (left_to_give t)
+pub goes_on_so : (t : ToldBatch) → (none_closing (drop t.given t.parts) && list_all goes_on_behind (end_verdicts t.end)) ≡ list_all
+    goes_on_behind (left_to_give t)
 goes_on_so t =
-    ap (λ (test : Bool). test && list_all goes_on_behind (ending t.end)) (sym (cleans_go (drop t.given t.parts) (drop t.stores_given t.stores) (drop t.prints_given t.prints)))
-    ∙ sym (list_all-append goes_on_behind (cleans t) (ending t.end))
+    ap (λ (test : Bool). test && list_all goes_on_behind (end_verdicts t.end))
+    (sym (cleans_go (drop t.given t.parts) (drop t.stores_given t.stores) (drop t.prints_given t.prints)))
+    ∙ sym (list_all-append goes_on_behind (cleans t) (end_verdicts t.end))

@@ -1,5 +1,6 @@
 -- One iteration of a batch is decided.
-use Rattle.dp_semantics.proofs.Names.{◌≡◌, refl, sym, ap, ◌∙◌, subst, inl, inr, arith, ℕ, suc, ◌+◌, ◌-◌, ◌<◌, ◌≤◌, ◌++◌, Bool, true, false, not, List, [], ◌∷◌, ℤ, Some, length, map, flat_map, nat_le, le-leb, leb-true, cases_Bool, Load}
+use Rattle.dp_semantics.proofs.Names.{◌≡◌, refl, sym, ap, ◌∙◌, subst, inl, inr, arith, ℕ, suc, ◌+◌, ◌-◌, ◌<◌, ◌≤◌, ◌++◌, Bool, true, false, not, List, [], ◌∷◌}
+use Rattle.dp_semantics.proofs.Names.{ℤ, Some, length, map, flat_map, nat_le, le-leb, leb-true, cases_Bool, Load}
 use Rattle.dp_base.specs.declared.CellId.{CellId}
 use Rattle.dp_base.specs.declared.Cause.{Cause}
 use Rattle.dp_tree.specs.Numbering.{numbers_from}
@@ -20,21 +21,21 @@ use Rattle.dp_columns.specs.Left.{Left}
 use Rattle.dp_lean_judge.specs.JudgeState.{JudgeEnd, judge_begin}
 unfoldable use Rattle.dp_lean_judge.specs.JudgeFlat.{judge_flat}
 use Rattle.dp_lean_judge.specs.Laws.{SaysSame}
-use Rattle.dp_lean_judge.specs.Judged.{Judged}
+use Rattle.dp_lean_judge.specs.Judged.{JudgingEnds}
 use Rattle.dp_lean_judge.specs.declared.collected.Collected.{Collected}
 use Rattle.dp_lean_judge.specs.declared.judge.LeanJudged.{LeanJudged}
 use Rattle.dp_lean_judge.specs.declared.judge.LeanJudged.TheVariants as judged
 use Rattle.dp_lean_epoch.specs.Own.{steps_at, told_upto, loads_upto}
-use Rattle.dp_lean_epoch.specs.Coming.{Coming, LoadsComing, LeanJudges}
+use Rattle.dp_lean_epoch.specs.Coming.{QueuesBring, LoadsComing, LeanJudges}
 use Rattle.dp_lean_epoch.specs.Steps.{without_locals}
 use Rattle.dp_lean_epoch.specs.LeanBatch.{steps_among}
 use Rattle.dp_lean_epoch.specs.JudgeSteps as judge
-use Rattle.dp_lean_epoch.specs.JudgeSteps.{fuel_left, lean_carried, lean_verdict, lean_verdict_by, again_at}
-use Rattle.dp_lean_region.specs.LeanEpoch.{LeanEpoch, marks_in, begin_in}
+use Rattle.dp_lean_epoch.specs.JudgeSteps.{fuel_before, lean_carried, lean_verdict, lean_verdict_by, again_at}
+use Rattle.dp_lean_region.specs.LeanEpoch.{LeanEpoch, epoch_marks, begin_in}
 use Rattle.dp_lean_region.specs.declared.line.JudgeTables.{JudgeTables}
 use Rattle.dp_lean_machine.specs.Held.{held_in}
 use Rattle.dp_lean_machine.specs.declared.batch.StageColumns.{StageColumns}
-use Rattle.dp_judge.specs.Verdicts.{Stands, AreTold}
+use Rattle.dp_judge.specs.Verdicts.{JudgingStands, AreTold}
 use Rattle.dp_judge.specs.steps.Within.{JudgesBy, CameIn, CleanTo, Within, Closed}
 use Rattle.dp_judge.specs.steps.Deciding.{SeesAs}
 use Rattle.dp_judge.proofs.Telling.{told_more, go_on_too, last_there, one_longer}
@@ -53,7 +54,7 @@ module _ (e : LeanEpoch) (b n place : ℕ) (stages : List StageColumns) (came : 
   open e use {key}
 
   abbrev m : Marks
-  m = marks_in e
+  m = epoch_marks e
 
   abbrev all : ℕ
   all = length key.plan.stages
@@ -73,14 +74,14 @@ module _ (e : LeanEpoch) (b n place : ℕ) (stages : List StageColumns) (came : 
 
   abbrev Decided : Type 0
   Decided = (end : LeanJudgement) × JudgesIn key.program key.plan m (lean_judging key.program key.plan m cells at.coming.queues at.coming.loads) end
-      × judge.Judged m key here behind loads_behind end
+      × judge.JudgedAsDefined m key here behind loads_behind end
 
   decided : Decided
   decided =
       let rest : n - place ≡ suc others = omega (arith, low) in
       let come = came.epoch.laws.one_by_one all here others in
       came.laws.steps here at.clean.goes (came.arrive place low) cells at.clean.stands.cells at.coming.queues behind
-      (come.told at.coming.queues at.coming.more (subst (λ (j : ℕ). Coming m key all here j at.coming.queues at.coming.more) rest at.coming.told))
+      (come.told at.coming.queues at.coming.more (subst (λ (j : ℕ). QueuesBring m key all here j at.coming.queues at.coming.more) rest at.coming.told))
       at.coming.loads loads_behind
       (come.loads at.coming.loads at.coming.more_loads (subst (λ (j : ℕ). LoadsComing m key here j at.coming.loads at.coming.more_loads) rest at.coming.loaded))
 
@@ -95,10 +96,10 @@ module _ (e : LeanEpoch) (b n place : ℕ) (stages : List StageColumns) (came : 
   pub spent : left < steps_among (map held_in stages) place → (cause : Cause) × (Again cause ≡ verdict_at key here)
   spent less = again_is (lean_verdict_by m key here false decided.0) (ap (λ (t : Bool). lean_verdict_by m key here t decided.0) few) refl
     where
-      few : nat_le (steps_at m key here) (fuel_left m key here) ≡ false
-      few = elim (cases_Bool (nat_le (steps_at m key here) (fuel_left m key here))) [
+      few : nat_le (steps_at m key here) (fuel_before m key here) ≡ false
+      few = elim (cases_Bool (nat_le (steps_at m key here) (fuel_before m key here))) [
         | inl enough ↦ (
-            let low_steps : steps_at m key here ≤ fuel_left m key here = leb-true (steps_at m key here) (fuel_left m key here) enough in
+            let low_steps : steps_at m key here ≤ fuel_before m key here = leb-true (steps_at m key here) (fuel_before m key here) enough in
             let is = at.clean.stands.left in let steps = steps_are in absurd (omega (arith, low_steps, is, steps, less)))
         | inr less_steps ↦ less_steps
       ]
@@ -107,32 +108,34 @@ module _ (e : LeanEpoch) (b n place : ℕ) (stages : List StageColumns) (came : 
       (looks : SeesAs tables.ready.now cells readers answer cells_new readers_new collected) where
     abbrev Ended : Type 0
     Ended = (ops : ℕ) × (end : JudgeEnd)
-        × (judge_flat key.program key.plan (lean_code key.program key.plan (last key.plan) m) ops (judge_begin cells at.coming.queues at.coming.loads) ≡ Some end)
+        × (judge_flat key.program key.plan (lean_code key.program key.plan (last key.plan) m) ops
+        (judge_begin cells at.coming.queues at.coming.loads) ≡ Some end)
         × SaysSame end decided.0
 
     ended : Ended
     ended = came.laws.code cells at.coming.queues at.coming.loads decided.0 decided.1
 
     abbrev Seen : Type 0
-    Seen = (tells : Bool) × Judged key.program key.plan tells ended.1 answer cells_new readers_new collected
+    Seen = (tells : Bool) × JudgingEnds key.program key.plan tells ended.1 answer cells_new readers_new collected
 
     seen : Seen
-    seen = looks key.program key.plan (lean_code key.program key.plan (last key.plan) m) at.coming.queues at.coming.loads by.ready at.coming.shows ended.0 ended.1 ended.2
+    seen = looks key.program key.plan (lean_code key.program key.plan (last key.plan) m) at.coming.queues at.coming.loads by.ready at.coming.shows
+        ended.0 ended.1 ended.2
 
     -- it is executed again where what was compared differs
     pub differs_then : answer ≡ judged.Differs → (cause : Cause) × (Again cause ≡ verdict_at key here)
     differs_then is =
         let same = differs key.program key.plan cells_new readers_new collected seen.0 ended.1 decided.0 ended.3
-        (subst (λ (a : LeanJudged). Judged key.program key.plan seen.0 ended.1 a cells_new readers_new collected) is seen.1) in
-        let enough = nat_le (steps_at m key here) (fuel_left m key here) in
+        (subst (λ (a : LeanJudged). JudgingEnds key.program key.plan seen.0 ended.1 a cells_new readers_new collected) is seen.1) in
+        let enough = nat_le (steps_at m key here) (fuel_before m key here) in
         again_is (lean_verdict_by m key here enough lean.Differs) (ap (lean_verdict_by m key here enough) same) (differs_again m key here enough)
 
     module _ (closing : Bool) (holds : answer ≡ judged.Holds closing) (after : ℕ) (leaves : left ≡ after + steps_among (map held_in stages) place) where
       h : Held key.program key.plan cells_new readers_new collected closing decided.0
       h = held key.program key.plan cells_new readers_new collected seen.0 closing ended.1 decided.0 ended.3
-          (subst (λ (a : LeanJudged). Judged key.program key.plan seen.0 ended.1 a cells_new readers_new collected) holds seen.1)
+          (subst (λ (a : LeanJudged). JudgingEnds key.program key.plan seen.0 ended.1 a cells_new readers_new collected) holds seen.1)
 
-      enough : steps_at m key here ≤ fuel_left m key here
+      enough : steps_at m key here ≤ fuel_before m key here
       enough = let is = at.clean.stands.left in let steps = steps_are in omega (arith, is, steps, leaves)
 
       next : judge.CommitsAs m key here behind loads_behind h.judging
@@ -150,7 +153,7 @@ module _ (e : LeanEpoch) (b n place : ℕ) (stages : List StageColumns) (came : 
       says : SaysTheSame key (verdict_at key here) (Commit carried)
       says = subst (λ (v : Said). SaysTheSame key (verdict_at key here) v)
           (ap (lean_verdict m key here) h.is
-          ∙ ap (λ (t : Bool). lean_verdict_by m key here t (lean.Holds h.judging)) (le-leb (steps_at m key here) (fuel_left m key here) enough)
+          ∙ ap (λ (t : Bool). lean_verdict_by m key here t (lean.Holds h.judging)) (le-leb (steps_at m key here) (fuel_before m key here) enough)
           ∙ ap Commit (sym carried_is)) decided.2.verdict
 
       abbrev told_then : List Verdict
@@ -167,7 +170,7 @@ module _ (e : LeanEpoch) (b n place : ℕ) (stages : List StageColumns) (came : 
 
       module _ (locals : List CellId) (locals_are : locals ≡ tables.locals.now) (left_new : ℕ) (left_is : left_new ≡ after) (cells_then : List ℤ)
           (cells_are : cells_then ≡ clear_cells locals cells_new) where
-        stands : (k : ℕ) → k ≡ suc here → Stands e k left_new cells_then
+        stands : (k : ℕ) → k ≡ suc here → JudgingStands e k left_new cells_then
         stands k is = record {
           left =
               (let spent : left_new ≡ key.fuel - (state_at key (suc here)).steps =

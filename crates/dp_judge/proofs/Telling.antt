@@ -1,8 +1,9 @@
 -- The verdicts on a batch, one more behind those that were told.
-use Rattle.dp_semantics.proofs.Names.{◌≡◌, refl, sym, ap, subst, arith, ℕ, zero, suc, ◌+◌, ◌≤◌, ◌⊎◌, inl, inr, true, List, [], ◌∷◌, ◌++◌, length, Some, slice_get}
+use Rattle.dp_semantics.proofs.Names.{◌≡◌, refl, sym, ap, subst, arith, ℕ, zero, suc, ◌+◌, ◌≤◌, ◌⊎◌, inl, inr, true, List, [], ◌∷◌, ◌++◌, length, Some}
+use Rattle.dp_semantics.proofs.Names.{slice_get}
 use Rattle.dp_semantics.specs.EpochVerdicts.{verdict_at}
 use Rattle.dp_net.specs.NetVerdicts.{GoesOnTo}
-use Rattle.dp_judge.specs.Told.{Says, goes_on_behind}
+use Rattle.dp_judge.specs.Told.{SaysDecided, goes_on_behind}
 use Rattle.dp_judge.specs.declared.verdict.Verdict.{Verdict}
 use Rattle.dp_lean_region.specs.LeanEpoch.{LeanEpoch, begin_in, size_in}
 use Rattle.dp_judge.specs.Verdicts.{AreTold, EachGoesOn}
@@ -41,14 +42,14 @@ module _ (e : LeanEpoch) (b : ℕ) where
   }
 
   pub told_more : (vs : List Verdict) → AreTold e b vs → EachGoesOn vs → length vs ≤ size_in e b → GoesOnTo e.key (begin_in e b + length vs) →
-      (v : Verdict) → Says e.key v (verdict_at e.key (begin_in e b + length vs)) → AreTold e b (vs ++ v ∷ [])
+      (v : Verdict) → SaysDecided e.key v (verdict_at e.key (begin_in e b + length vs)) → AreTold e b (vs ++ v ∷ [])
   told_more vs told all low goes v says = record {
     each = λ i w is. elim (last_or vs v i w is) [
       | inl there ↦ told.each i w there
       | inr last ↦ (
         subst (λ (n : ℕ). GoesOnTo e.key (begin_in e b + n)) (sym last.0) goes,
-        subst (λ (n : ℕ). Says e.key w (verdict_at e.key (begin_in e b + n))) (sym last.0)
-            (subst (λ (x : Verdict). Says e.key x (verdict_at e.key (begin_in e b + length vs))) last.1 says),
+        subst (λ (n : ℕ). SaysDecided e.key w (verdict_at e.key (begin_in e b + n))) (sym last.0)
+            (subst (λ (x : Verdict). SaysDecided e.key x (verdict_at e.key (begin_in e b + length vs))) last.1 says),
       )
     ];
     onward = λ i w is more. elim (last_or vs v i w is) [

@@ -16,10 +16,10 @@ cleans_from (p ∷ rest) stores prints =
     ∷ cleans_from rest (drop p.stores stores) (drop p.prints prints)
 
 -- what stands behind those that are clean
-abbrev pub ending : ToldEnd → List Verdict
-ending ends.Over = []
-ending ends.Unclean = Unclean ∷ []
-ending ends.NoMemory = NoMemory ∷ []
+abbrev pub end_verdicts : ToldEnd → List Verdict
+end_verdicts ends.Over = []
+end_verdicts ends.Unclean = Unclean ∷ []
+end_verdicts ends.NoMemory = NoMemory ∷ []
 
 module _ (t : ToldBatch) where
   -- the clean iterations that weren't given yet
@@ -28,10 +28,10 @@ module _ (t : ToldBatch) where
 
   -- all verdicts that weren't given yet
   abbrev pub left_to_give : List Verdict
-  left_to_give = cleans ++ ending t.end
+  left_to_give = cleans ++ end_verdicts t.end
 
 -- The verdict is the next one, and those behind it are left. Or memory was wanting for it, and none is left.
-pub record IsNext (old new : ToldBatch) (v : Verdict) : Type 0 where
+pub record IsNextVerdict (old new : ToldBatch) (v : Verdict) : Type 0 where
   pub first : Verdict
   pub rest : List Verdict
   pub left : left_to_give old ≡ first ∷ rest

@@ -9,10 +9,10 @@ use Rattle.dp_judge.specs.declared.verdict.Verdict.TheVariants.{Clean, Unclean, 
 
 -- The verdict is what is decided in this epoch: to commit what it carries, or what leads to the same memory with the same prints,
 -- steps and end; or to execute again for a cause, which it doesn't tell; or memory was wanting.
-abbrev pub Says : EpochKey → Verdict → Decided → Type 0
-Says key (Clean v) decided = SaysTheSame key decided (Commit v)
-Says key Unclean decided = (cause : Cause) × (Again cause ≡ decided)
-Says key NoMemory decided = Unit {0}
+abbrev pub SaysDecided : EpochKey → Verdict → Decided → Type 0
+SaysDecided key (Clean v) decided = SaysTheSame key decided (Commit v)
+SaysDecided key Unclean decided = (cause : Cause) × (Again cause ≡ decided)
+SaysDecided key NoMemory decided = Unit {0}
 
 -- the epoch goes on behind it
 abbrev pub goes_on_behind : Verdict → Bool

@@ -2,21 +2,21 @@
 use Rattle.std.specs.Prelude.{◌≡◌, ◌<◌, ◌≤◌, ℕ, suc, ◌+◌, true, List, ℤ, length, Some, slice_get}
 use Rattle.dp_semantics.specs.EpochVerdicts.{verdict_at}
 use Rattle.dp_net.specs.NetVerdicts.{GoesOnTo}
-use Rattle.dp_judge.specs.Told.{Says, goes_on_behind}
+use Rattle.dp_judge.specs.Told.{SaysDecided, goes_on_behind}
 use Rattle.dp_judge.specs.declared.verdict.Verdict.{Verdict}
 use Rattle.dp_lean_epoch.specs.Coming.{LeanJudges}
-use Rattle.dp_lean_epoch.specs.JudgeSteps.{fuel_left}
-use Rattle.dp_lean_region.specs.LeanEpoch.{LeanEpoch, marks_in, begin_in, size_in}
+use Rattle.dp_lean_epoch.specs.JudgeSteps.{fuel_before}
+use Rattle.dp_lean_region.specs.LeanEpoch.{LeanEpoch, epoch_marks, begin_in, size_in}
 
 -- This much is left of the fuel before the epoch's n-th iteration, and in this memory the judging stands there.
-pub record Stands (e : LeanEpoch) (n spare : ℕ) (memory : List ℤ) : Type 0 where
-  pub left : spare ≡ fuel_left (marks_in e) e.key n
+pub record JudgingStands (e : LeanEpoch) (n spare : ℕ) (memory : List ℤ) : Type 0 where
+  pub left : spare ≡ fuel_before (epoch_marks e) e.key n
   pub cells : LeanJudges e.key n memory
 
 -- These are the verdicts on the epoch's batch b, up to the first that doesn't go on, or behind which nothing came. Where memory was wanting
 -- there may be one more than the batch has iterations.
 pub record AreTold (e : LeanEpoch) (b : ℕ) (vs : List Verdict) : Type 0 where
-  pub each : (i : ℕ) (v : Verdict) → slice_get vs i ≡ Some v → GoesOnTo e.key (begin_in e b + i) × Says e.key v (verdict_at e.key (begin_in e b + i))
+  pub each : (i : ℕ) (v : Verdict) → slice_get vs i ≡ Some v → GoesOnTo e.key (begin_in e b + i) × SaysDecided e.key v (verdict_at e.key (begin_in e b + i))
   pub onward : (i : ℕ) (v : Verdict) → slice_get vs i ≡ Some v → suc i < length vs → goes_on_behind v ≡ true
   pub few : length vs ≤ suc (size_in e b)
 

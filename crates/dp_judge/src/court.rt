@@ -59,7 +59,7 @@ impl LeanCourt {
     ghost use Rattle.dp_lean_epoch.specs.Coming.{LeanJudges};
     ghost use Rattle.dp_lean_region.specs.LeanEpoch.{LeanEpoch, IsLeanEpoch, HasJudgeLaws};
     ghost use Rattle.dp_lean_machine.specs.Sent.{AsStatus, IsSent};
-    ghost use Rattle.dp_judge.specs.Judging.{Judges, Gives};
+    ghost use Rattle.dp_judge.specs.Judging.{Judges, GivesVerdicts};
     ghost use Rattle.dp_judge.specs.Decided.{cleans};
     ghost use Rattle.dp_judge.specs.steps.Adding.{IsUngiven};
     ghost use Rattle.dp_judge.specs.steps.Within.{CameTo};
@@ -116,7 +116,7 @@ impl LeanCourt {
     /// Tells the verdicts on a batch.
     pub fn judge<'p>(&mut self, batch: &LeanBatch<'p>, told: &mut ToldBatch)
         ensures gives { (e : LeanEpoch) (b : ℕ) → Judges self.old e b → IsSent e (length e.key.plan.stages) b batch.now →
-            Gives self.new e b batch.now.status told.new }
+            GivesVerdicts self.new e b batch.now.status told.new }
     {
         told.clear();
         let decision = self.decide_known(batch, told);

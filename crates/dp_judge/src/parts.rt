@@ -2,7 +2,7 @@
 ghost use Rattle.std.specs.Prelude.{◌≡◌, ◌+◌, drop, min, take};
 ghost use Rattle.std.specs.List.{list_all};
 ghost use Rattle.dp_judge.specs.Told.{goes_on_behind};
-ghost use Rattle.dp_judge.specs.Decided.{ending};
+ghost use Rattle.dp_judge.specs.Decided.{end_verdicts};
 ghost use Rattle.dp_judge.specs.steps.Adding.{none_closing};
 
 use crate::told::{Part, ToldEnd};
@@ -21,7 +21,7 @@ pub(crate) fn none_closes(parts: &[Part]) -> bool
 
 /// Nothing stands behind the clean iterations.
 pub(crate) fn is_over(end: ToldEnd) -> bool
-    ensures { result ≡ list_all goes_on_behind (ending end) }
+    ensures { result ≡ list_all goes_on_behind (end_verdicts end) }
 {
     match end {
         ToldEnd::Over => true,

@@ -3,7 +3,7 @@ ghost use Rattle.std.specs.Prelude.{◌≡◌, ◌++◌, ◌∷◌, [], length, 
 ghost use Rattle.std.specs.List.{list_all};
 ghost use Rattle.dp_judge.specs.Told.{goes_on_behind};
 ghost use Rattle.dp_judge.specs.declared.verdict.Verdict.TheVariants as verdict;
-ghost use Rattle.dp_judge.specs.Decided.{IsNext, cleans, ending, left_to_give};
+ghost use Rattle.dp_judge.specs.Decided.{IsNextVerdict, cleans, end_verdicts, left_to_give};
 ghost use Rattle.dp_judge.specs.steps.Adding.{IsUngiven, carried_by};
 
 use crate::clean::Clean;
@@ -122,7 +122,7 @@ impl ToldBatch {
     /// This stands behind the clean iterations.
     pub(crate) fn end_with(&mut self, end: ToldEnd)
         ensures cleans { cleans self.new ≡ cleans self.old }
-        ensures left { left_to_give self.new ≡ cleans self.old ++ ending end }
+        ensures left { left_to_give self.new ≡ cleans self.old ++ end_verdicts end }
     {
         self.end = end;
     }
@@ -167,7 +167,7 @@ impl ToldBatch {
     /// The next verdict, on the clean iteration of this part.
     fn next_clean(&mut self, part: Part) -> Verdict
         requires { slice_get self.old.parts self.old.given ≡ Some part }
-        ensures { IsNext self.old self.new result }
+        ensures { IsNextVerdict self.old self.new result }
     {
         match self.carried(part) {
             Ok(clean) => {
@@ -184,7 +184,7 @@ impl ToldBatch {
     /// The verdict behind those that are clean, if there is one.
     fn next_end(&mut self) -> Option<Verdict>
         requires { length self.old.parts ≤ self.old.given }
-        ensures { MatchOption result ((left_to_give self.old ≡ []) × (left_to_give self.new ≡ [])) (λ v. IsNext self.old self.new v) }
+        ensures { MatchOption result ((left_to_give self.old ≡ []) × (left_to_give self.new ≡ [])) (λ v. IsNextVerdict self.old self.new v) }
     {
         let end = self.end;
         self.end = ToldEnd::Over;
@@ -197,7 +197,7 @@ impl ToldBatch {
 
     /// The next verdict. Where memory is wanting for it, nothing follows.
     pub fn next(&mut self) -> Option<Verdict>
-        ensures { MatchOption result ((left_to_give self.old ≡ []) × (left_to_give self.new ≡ [])) (λ v. IsNext self.old self.new v) }
+        ensures { MatchOption result ((left_to_give self.old ≡ []) × (left_to_give self.new ≡ [])) (λ v. IsNextVerdict self.old self.new v) }
     {
         match self.parts.get(self.given) {
             Some(part) => {

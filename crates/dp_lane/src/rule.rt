@@ -1,6 +1,6 @@
 //! The rule of a lane's queue: what it holds, and what its two passes know.
 ghost use Rattle.std.specs.Prelude.{◌≡◌, ◌≤◌, Option, None, length};
-ghost use Rattle.dp_lane.specs.Views.{after_send, sent_by, Takes};
+ghost use Rattle.dp_lane.specs.Views.{after_send, sent_by, TakesItem};
 
 use crate::item::LaneItem;
 use crossbeam_queue::protocol::{Lesson, Outcome, Protocol, Split};
@@ -70,7 +70,7 @@ impl<T: LaneItem> Lesson<T, View<T::Key>> for Sent {
 pub(crate) struct Taken;
 
 impl<T: LaneItem> Outcome<T, View<T::Key>> for Taken {
-    ghost then = { Takes T.is_item };
+    ghost then = { TakesItem T.is_item };
 }
 
 impl<T: LaneItem> Lesson<T, View<T::Key>> for Taken {

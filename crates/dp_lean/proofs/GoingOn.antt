@@ -1,5 +1,7 @@
 -- Memories that agree go on to the next iteration, and to the workers of a replicated stage.
-use Rattle.dp_semantics.proofs.Names.{◌≡◌, inl, inr, refl, sym, ap, ◌∙◌, arith, le-ltb, ℕ, suc, ◌≤◌, Bool, true, false, ◌||◌, ◌&&◌, if◌then◌else◌, List, ℤ, length, list_any, or-true, cases_Bool, Program, Plan, is_replicated, region_accesses, is_local_cell, clear_locals, fits_plan}
+use Rattle.dp_semantics.proofs.Names.{◌≡◌, inl, inr, refl, sym, ap, ◌∙◌, arith, le-ltb, ℕ, suc, ◌≤◌, Bool, true, false, ◌||◌, ◌&&◌, if◌then◌else◌, List, ℤ}
+use Rattle.dp_semantics.proofs.Names.{length, list_any, or-true, cases_Bool, Program, Plan, is_replicated, region_accesses, is_local_cell, clear_locals}
+use Rattle.dp_semantics.proofs.Names.{fits_plan}
 use Rattle.dp_semantics.proofs.Setting.{Accepted}
 use Rattle.dp_theorem.proofs.Fitting.{accepted}
 use Rattle.dp_theorem.proofs.Memory.{clear-at, clear-other}
@@ -18,8 +20,10 @@ module _ (p : Program) (plan : Plan) where
   }
 
   module _ (ok : Accepted p plan) (s : ℕ) (next : suc s ≤ length plan.stages) (workers : is_replicated plan (suc s) ≡ true) where
-    real : (t : ℕ) → t ≤ length plan.stages → (x : ℕ) → wanted p plan t x ≡ (is_loaded_in p plan t x || (is_replicated plan (suc t) && is_loaded_in p plan (suc t) x))
-    real t low x = ap (λ (b : Bool). if b then list_any (compares p plan x) (region_accesses p plan) else (is_loaded_in p plan t x || (is_replicated plan (suc t) && is_loaded_in p plan (suc t) x)))
+    real : (t : ℕ) → t ≤ length plan.stages → (x : ℕ) →
+        wanted p plan t x ≡ (is_loaded_in p plan t x || (is_replicated plan (suc t) && is_loaded_in p plan (suc t) x))
+    real t low x = ap (λ (b : Bool). if b then list_any (compares p plan x) (region_accesses p plan)
+        else (is_loaded_in p plan t x || (is_replicated plan (suc t) && is_loaded_in p plan (suc t) x)))
         (le-ltb (length plan.stages) t low)
 
     -- no replicated stage follows
@@ -31,7 +35,8 @@ module _ (p : Program) (plan : Plan) where
         by true e = sym workers ∙ ok.apart (suc s) e
 
     loaded : (x : ℕ) → wanted p plan (suc s) x ≡ true → is_loaded_in p plan (suc s) x ≡ true
-    loaded x w = by (is_loaded_in p plan (suc s) x) (sym (real (suc s) next x ∙ ap (λ (b : Bool). is_loaded_in p plan (suc s) x || (b && is_loaded_in p plan (suc (suc s)) x)) alone) ∙ w)
+    loaded x w = by (is_loaded_in p plan (suc s) x)
+        (sym (real (suc s) next x ∙ ap (λ (b : Bool). is_loaded_in p plan (suc s) x || (b && is_loaded_in p plan (suc (suc s)) x)) alone) ∙ w)
       where
         by : (b : Bool) → (b || false) ≡ true → b ≡ true
         by true e = refl
@@ -39,7 +44,8 @@ module _ (p : Program) (plan : Plan) where
 
     wanted_before : (x : ℕ) → wanted p plan (suc s) x ≡ true → wanted p plan s x ≡ true
     wanted_before x w = real s (omega (arith, next)) x
-        ∙ ap (λ (b : Bool). is_loaded_in p plan s x || (b && is_loaded_in p plan (suc s) x)) workers ∙ ap (λ (b : Bool). is_loaded_in p plan s x || b) (loaded x w) ∙ or-true (is_loaded_in p plan s x)
+        ∙ ap (λ (b : Bool). is_loaded_in p plan s x || (b && is_loaded_in p plan (suc s) x)) workers
+        ∙ ap (λ (b : Bool). is_loaded_in p plan s x || b) (loaded x w) ∙ or-true (is_loaded_in p plan s x)
 
     for_workers : (a b : List ℤ) → AgreesOn p plan s a b → AgreesOn p plan (suc s) a b
     for_workers a b ab = record { size = ab.size; same = λ x c w i. ab.same x c (wanted_before x w) i }

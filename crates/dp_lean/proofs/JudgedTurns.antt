@@ -1,5 +1,6 @@
 -- The judging of items and the lean judging side by side: what holds between them, and how the lean one ends.
-use Rattle.dp_semantics.proofs.Names.{◌≡◌, ap, ◌∙◌, ℕ, suc, ◌+◌, ◌<◌, ◌≤◌, Bool, true, List, [], ◌∷◌, ◌++◌, ℤ, length, Option, Some, None, filter_map, Stmt, Program, Plan, Load, Effect, is_checked, applied}
+use Rattle.dp_semantics.proofs.Names.{◌≡◌, ap, ◌∙◌, ℕ, suc, ◌+◌, ◌<◌, ◌≤◌, Bool, true, List, [], ◌∷◌, ◌++◌, ℤ, length, Option, Some, None, filter_map, Stmt}
+use Rattle.dp_semantics.proofs.Names.{Program, Plan, Load, Effect, is_checked, applied}
 use Rattle.dp_tree.specs.Trace.{printed_by}
 use Rattle.dp_semantics.proofs.Setting.{Laid}
 use Rattle.dp_net.specs.NetItems.{Marks, Item, item_list}
@@ -16,7 +17,8 @@ use Rattle.dp_lean.proofs.Walk.{Brings, Walkable}
 use Rattle.dp_lean.proofs.Alongside.{OfText, Fed}
 use Rattle.dp_lean.proofs.JudgeSteps.{net_judging_at}
 
-module _ (p : Program) (plan : Plan) (m : Marks) (input : List ℤ) (marked : Marked p plan m input) (laid : Laid p plan) (judge : is_judge p plan (suc (length plan.stages)) ≡ true)
+module _ (p : Program) (plan : Plan) (m : Marks) (input : List ℤ) (marked : Marked p plan m input) (laid : Laid p plan)
+    (judge : is_judge p plan (suc (length plan.stages)) ≡ true)
     (limit : ℕ) (lists0 : List (List Item)) (cells0 : List ℤ) (more : ℕ → List Told) (more_loads : ℕ → List (List Load)) where
   abbrev pub t : ℕ
   t = length plan.stages
@@ -31,7 +33,8 @@ module _ (p : Program) (plan : Plan) (m : Marks) (input : List ℤ) (marked : Ma
   abbrev pub FedLoads : (ℕ → List Item) → (ℕ → List (List Load)) → Type 0
   FedLoads left loads = (y : ℕ) → read y ≡ true → is_checked p plan y ≡ true → loads y ≡ load_queue_of p plan left y ++ more_loads y
 
-  pub record Held (n : ℕ) (xs : List Stmt) (cells mem : List ℤ) (lists : List (List Item)) (queues : ℕ → List Told) (loads : ℕ → List (List Load)) (ne le : List Effect) (steps : ℕ) : Type 0 where
+  pub record Held (n : ℕ) (xs : List Stmt) (cells mem : List ℤ) (lists : List (List Item)) (queues : ℕ → List Told) (loads : ℕ → List (List Load))
+      (ne le : List Effect) (steps : ℕ) : Type 0 where
     pub walk : Walkable p plan m input marked t read xs
     pub came : Brings p plan m input marked t xs (item_list lists)
     pub of_text : OfText p plan m (item_list lists)
@@ -47,7 +50,11 @@ module _ (p : Program) (plan : Plan) (m : Marks) (input : List ℤ) (marked : Ma
 
   abbrev pub lean_judging_at : List Stmt → List ℤ → (ℕ → List Told) → (ℕ → List (List Load)) → Bool → List Effect → LeanJudging
   lean_judging_at ys mem queues loads closing effects =
-      record { turn = record { turn = record { to_do = ys; cells = mem; lists = []; own = []; closing = closing }; queues = queues }; loads = loads; effects = effects }
+      record {
+        turn = record { turn = record { to_do = ys; cells = mem; lists = []; own = []; closing = closing }; queues = queues };
+        loads = loads;
+        effects = effects;
+      }
 
   -- both judgings end alike
   abbrev pub EndsSo : Option NetAgreed → LeanJudgement → Type 0
@@ -58,7 +65,8 @@ module _ (p : Program) (plan : Plan) (m : Marks) (input : List ℤ) (marked : Ma
   abbrev pub Same : Option NetAgreed → LeanJudging → Type 0
   Same o c = (end : LeanJudgement) × JudgesIn p plan m c end × EndsSo o end
 
-  pub same_step : (o : Option NetAgreed) (c d : LeanJudging) (y : Stmt) (rest : List Stmt) → c.turn.turn.to_do ≡ y ∷ rest → lean_judge_step p plan m c y rest ≡ Some d → Same o d → Same o c
+  pub same_step : (o : Option NetAgreed) (c d : LeanJudging) (y : Stmt) (rest : List Stmt) → c.turn.turn.to_do ≡ y ∷ rest →
+      lean_judge_step p plan m c y rest ≡ Some d → Same o d → Same o c
   unfolding lean_judge_from
   same_step o c d y rest is step r = (
     r.0,
@@ -71,7 +79,8 @@ module _ (p : Program) (plan : Plan) (m : Marks) (input : List ℤ) (marked : Ma
 
   pub same_stop : (c : LeanJudging) (y : Stmt) (rest : List Stmt) → c.turn.turn.to_do ≡ y ∷ rest → lean_judge_step p plan m c y rest ≡ None → Same None c
   unfolding lean_judge_from
-  same_stop c y rest is step = (Differs, (1, ap (lean_judge_at p plan m (lean_judge_from p plan m 0) c) is ∙ ap (lean_judge_by p plan (lean_judge_from p plan m 0)) step), tt)
+  same_stop c y rest is step =
+      (Differs, (1, ap (lean_judge_at p plan m (lean_judge_from p plan m 0) c) is ∙ ap (lean_judge_by p plan (lean_judge_from p plan m 0)) step), tt)
 
   pub same_end : (a : NetAgreed) (c : LeanJudging) → c.turn.turn.to_do ≡ [] → EndsSo (Some a) (Holds c) → Same (Some a) c
   unfolding lean_judge_from
@@ -81,6 +90,7 @@ module _ (p : Program) (plan : Plan) (m : Marks) (input : List ℤ) (marked : Ma
   net_at xs cells lists closing effects sites steps = net_judging_at p plan m input marked read limit xs cells lists closing effects sites steps
 
   abbrev pub Alike : (NetJudging → Option NetAgreed) → ℕ → Type 0
-  Alike go n = (xs : List Stmt) (cells mem : List ℤ) (lists : List (List Item)) (queues : ℕ → List Told) (loads : ℕ → List (List Load)) (closing : Bool) (ne le : List Effect) (sites : List ℕ) (steps : ℕ) →
+  Alike go n = (xs : List Stmt) (cells mem : List ℤ) (lists : List (List Item)) (queues : ℕ → List Told) (loads : ℕ → List (List Load)) (closing : Bool)
+      (ne le : List Effect) (sites : List ℕ) (steps : ℕ) →
       Held n xs cells mem lists queues loads ne le steps →
       Same (go (net_at xs cells lists closing ne sites steps)) (lean_judging_at (leaned p plan m stage xs) mem queues loads closing le)

@@ -1,5 +1,9 @@
 -- The head of a text: its statement is left, with what may follow it, or nothing is left of it; or a block begins there.
-use Rattle.dp_semantics.proofs.Names.{◌≡◌, inl, inr, refl, sym, ap, ◌∙◌, subst, ℕ, Bool, true, false, not, ◌||◌, if◌then◌else◌, List, [], ◌∷◌, ◌++◌, ℤ, is_zero, or_parts, cases_Bool, outs-If, rolls-Assign, rolls-Store, rolls-Print, rolls-Break, SiteId, Expr, Stmt, out-Stmt, roll-Stmt, roll-out-Stmt, Stmt-F, Assign, Store, Print, If, While, Break, Program, Plan, Word, evaluated, Printed, Tried, site_of, effect_by, followed, choose, behind_region, ◌==◌, ◌&&◌, stage_of, first_site, is_checked, Effect, Stored, Decided, leaves, closes_at}
+use Rattle.dp_semantics.proofs.Names.{◌≡◌, inl, inr, refl, sym, ap, ◌∙◌, subst, ℕ, Bool, true, false, not, ◌||◌, if◌then◌else◌, List, [], ◌∷◌, ◌++◌, ℤ, is_zero}
+use Rattle.dp_semantics.proofs.Names.{or_parts, cases_Bool, outs-If, rolls-Assign, rolls-Store, rolls-Print, rolls-Break, SiteId, Expr, Stmt, out-Stmt}
+use Rattle.dp_semantics.proofs.Names.{roll-Stmt, roll-out-Stmt, Stmt-F, Assign, Store, Print, If, While, Break, Program, Plan, Word, evaluated, Printed, Tried}
+use Rattle.dp_semantics.proofs.Names.{site_of, effect_by, followed, choose, behind_region, ◌==◌, ◌&&◌, stage_of, first_site, is_checked, Effect, Stored}
+use Rattle.dp_semantics.proofs.Names.{Decided, leaves, closes_at}
 use Rattle.dp_tree.specs.declared.Stmt.TheVariants as tree
 use Rattle.dp_tree.specs.declared.Stmt.TheVariants.{outs-While}
 use Rattle.dp_semantics.proofs.Evaluation.{Form, head_stores}
@@ -21,7 +25,8 @@ module _ (p : Program) (plan : Plan) (m : Marks) (s : ℕ) where
 
   -- .. it is another stage's, not the region's condition, and has nothing that is compared
   pub gone_parts : (h : Stmt-F Stmt) → Gone h →
-      ((stage_of p plan (site_of h).0 == s) ≡ false) × (((site_of h).0 == first_site p plan) ≡ false) × ((is_judge p plan s && is_checked p plan (site_of h).0) ≡ false)
+      ((stage_of p plan (site_of h).0 == s) ≡ false) × (((site_of h).0 == first_site p plan) ≡ false)
+      × ((is_judge p plan s && is_checked p plan (site_of h).0) ≡ false)
   gone_parts h gone =
       let both = or_parts (stage_of p plan (site_of h).0 == s) _ gone.other in
       let two = or_parts ((site_of h).0 == first_site p plan) _ both.1 in
@@ -51,7 +56,8 @@ module _ (p : Program) (plan : Plan) (m : Marks) (s : ℕ) where
       gone : Plain m x → read (site_at x) ≡ false → Gone (out-Stmt x) → leaned p plan m s (x ∷ rest) ≡ leaned p plan m s rest →
           ((z : ℤ) → Left p plan m s read (followed x rest (out-Stmt x) z)) →
           ((z : ℤ) → leaned p plan m s (followed x rest (out-Stmt x) z) ≡ leaned p plan m s rest) → Headed x rest
-      whole : (b more : List Stmt) → m.block_at (site_at x) ≡ x ∷ b → rest ≡ b ++ more → ReadBlock p plan m s read x b → Left p plan m s read more → Headed x rest
+      whole : (b more : List Stmt) → m.block_at (site_at x) ≡ x ∷ b → rest ≡ b ++ more → ReadBlock p plan m s read x b →
+          Left p plan m s read more → Headed x rest
 
     choose_left : (z : ℤ) {a b : List Stmt} → Left p plan m s read a → Left p plan m s read b → Left p plan m s read (choose z a b)
     choose_left z {a} {b} t u = by (is_zero z)
@@ -97,9 +103,12 @@ module _ (p : Program) (plan : Plan) (m : Marks) (s : ℕ) where
     leaf_is x _ is l = absurd l
 
     leaf_gone : (h : Stmt-F Stmt) → IsLeaf h → leaf_test h ≡ false → Gone h
-    leaf_gone (Assign site v e) l q = let both = or_parts (is_kept_site p plan s site.0) (is_done_to p plan s v.0) q in record { other = both.0; undone = both.1; mute = λ z f. absurd f; inner = λ z f. f }
-    leaf_gone (Store site v i e) l q = let both = or_parts (is_kept_site p plan s site.0) (is_done_to p plan s v.0) q in record { other = both.0; undone = both.1; mute = λ z f. absurd f; inner = λ z f. f }
-    leaf_gone (Print site e) l q = let both = or_parts (is_kept_site p plan s site.0) (is_judge p plan s) q in record { other = both.0; undone = refl; mute = λ z f. both.1; inner = λ z f. f }
+    leaf_gone (Assign site v e) l q = let both = or_parts (is_kept_site p plan s site.0) (is_done_to p plan s v.0) q in
+        record { other = both.0; undone = both.1; mute = λ z f. absurd f; inner = λ z f. f }
+    leaf_gone (Store site v i e) l q = let both = or_parts (is_kept_site p plan s site.0) (is_done_to p plan s v.0) q in
+        record { other = both.0; undone = both.1; mute = λ z f. absurd f; inner = λ z f. f }
+    leaf_gone (Print site e) l q = let both = or_parts (is_kept_site p plan s site.0) (is_judge p plan s) q in
+        record { other = both.0; undone = refl; mute = λ z f. both.1; inner = λ z f. f }
     leaf_gone (Break site cond) l q = absurd (cc q)
     leaf_gone _ l q = absurd l
 
@@ -121,7 +130,8 @@ module _ (p : Program) (plan : Plan) (m : Marks) (s : ℕ) where
     leaf_next x rest (Store site v i e) z l none also = refl
     leaf_next x rest (Print site e) z l none also = refl
     leaf_next x rest (Break site cond) z l none also =
-        ap (λ (ys : List Stmt). choose z ys (leaned p plan m s rest)) (also ∙ ap (leaned p plan m s) (sym none)) ∙ sym (leaned_choose z (behind_region rest) rest)
+        ap (λ (ys : List Stmt). choose z ys (leaned p plan m s rest)) (also ∙ ap (leaned p plan m s) (sym none))
+        ∙ sym (leaned_choose z (behind_region rest) rest)
     leaf_next x rest _ z l none also = absurd l
 
     leaf_drops : (x : Stmt) (rest : List Stmt) (h : Stmt-F Stmt) (z : ℤ) → IsLeaf h → leaf_test h ≡ false → followed x rest h z ≡ rest
@@ -146,15 +156,22 @@ module _ (p : Program) (plan : Plan) (m : Marks) (s : ℕ) where
           (λ z. leaf_left x (out-Stmt x) z l none t) (λ z. ap (leaned p plan m s) (leaf_drops x rest (out-Stmt x) z l q))
     ]
 
-    module _ (x : Stmt) (rest : List Stmt) (plain : Plain m x) (r : ReadAt p plan m s read x) (t : Left p plan m s read rest) (site : SiteId) (cond : Expr) where
+    module _ (x : Stmt) (rest : List Stmt) (plain : Plain m x) (r : ReadAt p plan m s read x) (t : Left p plan m s read rest)
+        (site : SiteId) (cond : Expr) where
       if_headed : (a b : List Stmt) → out-Stmt x ≡ If site cond a b → Left p plan m s read a → Left p plan m s read b → Headed x rest
       if_headed a b is c d = elim (cases_Bool test) [
         | inl q ↦
             let left : lean p plan m s x ≡ y ∷ [] = lean_is ∙ ap (λ (k : Bool). kept_when k y) q in
             stays plain (r ∙ ap (λ (xs : List Stmt). not (is_nil xs)) left) y
-            (record { site = ap site_of outs ∙ sym (ap site_of is); evaluates = λ cells. ap (evaluated p input cells) outs ∙ sym (ap (evaluated p input cells) is); does = λ w. ap (λ (h : Stmt-F Stmt). effect_by p h w) outs ∙ sym (ap (λ (h : Stmt-F Stmt). effect_by p h w) is) })
+            (record {
+              site = ap site_of outs ∙ sym (ap site_of is);
+              evaluates = λ cells. ap (evaluated p input cells) outs ∙ sym (ap (evaluated p input cells)
+                  is);
+              does = λ w. ap (λ (h : Stmt-F Stmt). effect_by p h w) outs ∙ sym (ap (λ (h : Stmt-F Stmt). effect_by p h w) is);
+            })
             (lean_alone p plan m s x rest plain.0 ∙ ap (λ (xs : List Stmt). xs ++ leaned p plan m s rest) left) lefts
-            (λ z. ap (λ (h : Stmt-F Stmt). followed y (leaned p plan m s rest) h z) outs ∙ ap (λ (xs : List Stmt). xs ++ leaned p plan m s rest) (sym (leaned_choose z a b))
+            (λ z. ap (λ (h : Stmt-F Stmt). followed y (leaned p plan m s rest) h z) outs ∙ ap (λ (xs : List Stmt). xs ++ leaned p plan m s rest)
+            (sym (leaned_choose z a b))
             ∙ sym (lean_join p plan m s (choose_left z c d) rest) ∙ ap (λ (h : Stmt-F Stmt). leaned p plan m s (followed x rest h z)) (sym is))
         | inr q ↦
             let left : lean p plan m s x ≡ [] = lean_is ∙ ap (λ (k : Bool). kept_when k y) q in
@@ -186,9 +203,15 @@ module _ (p : Program) (plan : Plan) (m : Marks) (s : ℕ) where
       while_headed a is c = elim (cases_Bool test) [
         | inl q ↦
             let left : lean p plan m s x ≡ y ∷ [] = lean_is ∙ ap (λ (k : Bool). kept_when k y) q in
-            let whole_is : leaned p plan m s (x ∷ rest) ≡ y ∷ leaned p plan m s rest = lean_alone p plan m s x rest plain.0 ∙ ap (λ (xs : List Stmt). xs ++ leaned p plan m s rest) left in
+            let whole_is : leaned p plan m s (x ∷ rest) ≡ y ∷ leaned p plan m s rest = lean_alone p plan m s x rest plain.0
+            ∙ ap (λ (xs : List Stmt). xs ++ leaned p plan m s rest) left in
             stays plain (r ∙ ap (λ (xs : List Stmt). not (is_nil xs)) left) y
-            (record { site = ap site_of outs ∙ sym (ap site_of is); evaluates = λ cells. ap (evaluated p input cells) outs ∙ sym (ap (evaluated p input cells) is); does = λ w. ap (λ (h : Stmt-F Stmt). effect_by p h w) outs ∙ sym (ap (λ (h : Stmt-F Stmt). effect_by p h w) is) })
+            (record {
+              site = ap site_of outs ∙ sym (ap site_of is);
+              evaluates = λ cells. ap (evaluated p input cells) outs ∙ sym (ap (evaluated p input cells)
+                  is);
+              does = λ w. ap (λ (h : Stmt-F Stmt). effect_by p h w) outs ∙ sym (ap (λ (h : Stmt-F Stmt). effect_by p h w) is);
+            })
             whole_is lefts
             (λ z. ap (λ (h : Stmt-F Stmt). followed y (leaned p plan m s rest) h z) outs
             ∙ ap (λ (xs : List Stmt). choose z (leaned p plan m s a ++ xs) (leaned p plan m s rest)) (sym whole_is)
@@ -198,12 +221,14 @@ module _ (p : Program) (plan : Plan) (m : Marks) (s : ℕ) where
             let left : lean p plan m s x ≡ [] = lean_is ∙ ap (λ (k : Bool). kept_when k y) q in
             let both = or_parts (is_kept_site p plan s site.0) (has_some p plan m s (leaned p plan m s a) []) q in
             let none = or_parts (not (is_nil (leaned p plan m s a))) false both.1 in
-            let whole_is : leaned p plan m s (x ∷ rest) ≡ leaned p plan m s rest = lean_alone p plan m s x rest plain.0 ∙ ap (λ (xs : List Stmt). xs ++ leaned p plan m s rest) left in
+            let whole_is : leaned p plan m s (x ∷ rest) ≡ leaned p plan m s rest = lean_alone p plan m s x rest plain.0
+            ∙ ap (λ (xs : List Stmt). xs ++ leaned p plan m s rest) left in
             gone plain (r ∙ ap (λ (xs : List Stmt). not (is_nil xs)) left)
             (subst Gone (sym is) (record { other = both.0; undone = refl; mute = λ z f. absurd f; inner = λ z f. f }))
             whole_is lefts
             (λ z. ap (λ (h : Stmt-F Stmt). leaned p plan m s (followed x rest h z)) is ∙ leaned_choose z (a ++ x ∷ rest) rest
-            ∙ choose_same z _ _ (leaned p plan m s rest) (lean_join p plan m s c (x ∷ rest) ∙ ap (λ (xs : List Stmt). xs ++ leaned p plan m s (x ∷ rest)) (nil_is _ none.0) ∙ whole_is) refl)
+            ∙ choose_same z _ _ (leaned p plan m s rest) (lean_join p plan m s c (x ∷ rest) ∙ ap (λ (xs : List Stmt). xs ++ leaned p plan m s (x ∷ rest))
+            (nil_is _ none.0) ∙ whole_is) refl)
       ]
         where
           y : Stmt

@@ -1,7 +1,9 @@
 -- A lean judging says what the judgement of the packet says.
-use Rattle.dp_semantics.proofs.Names.{◌≡◌, inl, inr, refl, sym, ap, ◌∙◌, subst, arith, lt-ltb, cases_lt, ℕ, zero, suc, ◌+◌, ◌<◌, ◌≤◌, Bool, true, false, List, [], ◌∷◌, ◌++◌, ℤ, length, map, Option, Some, None, Stmt, Program, Plan, Load, Effect, stage_of, region_accesses, fits_plan}
+use Rattle.dp_semantics.proofs.Names.{◌≡◌, inl, inr, refl, sym, ap, ◌∙◌, subst, arith, lt-ltb, cases_lt, ℕ, zero, suc, ◌+◌, ◌<◌, ◌≤◌, Bool, true, false, List}
+use Rattle.dp_semantics.proofs.Names.{[], ◌∷◌, ◌++◌, ℤ, length, map, Option, Some, None, Stmt, Program, Plan, Load, Effect, stage_of, region_accesses}
+use Rattle.dp_semantics.proofs.Names.{fits_plan}
 use Rattle.dp_tree.specs.Inlined.{IsInlined}
-use Rattle.dp_plan.specs.Written.{site_in}
+use Rattle.dp_plan.specs.Written.{access_site}
 use Rattle.dp_plan.proofs.Ascent.{Ascends}
 use Rattle.dp_semantics.specs.EpochKey.{epoch_of}
 use Rattle.dp_semantics.proofs.Setting.{Laid, Accepted}
@@ -31,7 +33,8 @@ use Rattle.dp_lean.proofs.JudgedBlocks.{block_case}
 use Rattle.dp_lean.proofs.Spent.{spends}
 use Rattle.dp_lean.proofs.Placed.{numbered, some_epoch, text, walkable, brings, of_text}
 
-module _ (p : Program) (plan : Plan) (m : Marks) (input : List ℤ) (marked : Marked p plan m input) (laid : Laid p plan) (judge : is_judge p plan (suc (length plan.stages)) ≡ true)
+module _ (p : Program) (plan : Plan) (m : Marks) (input : List ℤ) (marked : Marked p plan m input) (laid : Laid p plan)
+    (judge : is_judge p plan (suc (length plan.stages)) ≡ true)
     (limit : ℕ) (lists0 : List (List Item)) (cells0 : List ℤ) (more : ℕ → List Told) (more_loads : ℕ → List (List Load)) where
   abbrev t : ℕ
   t = length plan.stages
@@ -54,17 +57,23 @@ module _ (p : Program) (plan : Plan) (m : Marks) (input : List ℤ) (marked : Ma
   abbrev lean_place : List Stmt → List ℤ → (ℕ → List Told) → (ℕ → List (List Load)) → Bool → List Effect → LeanJudging
   lean_place = lean_judging_at p plan m input marked laid judge limit lists0 cells0 more more_loads
 
-  one : (n : ℕ) → AlikeAt (net_judge_from p plan m limit n) n → (x : Stmt) (rest : List Stmt) (cells mem : List ℤ) (lists : List (List Item)) (queues : ℕ → List Told) (loads : ℕ → List (List Load)) (closing : Bool) (ne le : List Effect) (sites : List ℕ) (steps : ℕ) →
+  one : (n : ℕ) → AlikeAt (net_judge_from p plan m limit n) n → (x : Stmt) (rest : List Stmt) (cells mem : List ℤ) (lists : List (List Item))
+      (queues : ℕ → List Told) (loads : ℕ → List (List Load)) (closing : Bool) (ne le : List Effect) (sites : List ℕ) (steps : ℕ) →
       HeldAt (suc n) (x ∷ rest) cells mem lists queues loads ne le steps → Headed p plan m (suc t) reads input x rest →
-      SameAt (net_judge_by p plan (net_judge_from p plan m limit n) (net_judge_step p plan m limit (net_place (x ∷ rest) cells lists closing ne sites steps) x rest)) (lean_place (leaned p plan m (suc t) (x ∷ rest)) mem queues loads closing le)
+      SameAt (net_judge_by p plan (net_judge_from p plan m limit n) (net_judge_step p plan m limit (net_place (x ∷ rest) cells lists closing ne sites steps) x
+      rest)) (lean_place (leaned p plan m (suc t) (x ∷ rest)) mem queues loads closing le)
   one n on x rest cells mem lists queues loads closing ne le sites steps held (stays plain r y stands is lefts nexts) =
-      stays_case p plan m input marked laid judge limit lists0 cells0 more more_loads n (net_judge_from p plan m limit n) on x rest cells mem lists queues loads closing ne le sites steps held plain lefts y stands is nexts r
+      stays_case p plan m input marked laid judge limit lists0 cells0 more more_loads n (net_judge_from p plan m limit n) on x rest cells mem lists queues loads
+      closing ne le sites steps held plain lefts y stands is nexts r
   one n on x rest cells mem lists queues loads closing ne le sites steps held (gone plain r none is lefts nexts) =
-      gone_case p plan m input marked laid judge limit lists0 cells0 more more_loads n (net_judge_from p plan m limit n) on x rest cells mem lists queues loads closing ne le sites steps held plain lefts r none is nexts
+      gone_case p plan m input marked laid judge limit lists0 cells0 more more_loads n (net_judge_from p plan m limit n) on x rest cells mem lists queues loads
+      closing ne le sites steps held plain lefts r none is nexts
   one n on x rest cells mem lists queues loads closing ne le sites steps held (whole b behind at is r lefts) =
       subst (λ (ys : List Stmt). HeldAt (suc n) (x ∷ ys) cells mem lists queues loads ne le steps →
-      SameAt (net_judge_by p plan (net_judge_from p plan m limit n) (net_judge_step p plan m limit (net_place (x ∷ ys) cells lists closing ne sites steps) x ys)) (lean_place (leaned p plan m (suc t) (x ∷ ys)) mem queues loads closing le)) (sym is)
-      (λ k. block_case p plan m input marked laid judge limit lists0 cells0 more more_loads n (net_judge_from p plan m limit n) on x b behind cells mem lists queues loads closing ne le sites steps k at r lefts) held
+      SameAt (net_judge_by p plan (net_judge_from p plan m limit n) (net_judge_step p plan m limit (net_place (x ∷ ys) cells lists closing ne sites steps) x
+      ys)) (lean_place (leaned p plan m (suc t) (x ∷ ys)) mem queues loads closing le)) (sym is)
+      (λ k. block_case p plan m input marked laid judge limit lists0 cells0 more more_loads n (net_judge_from p plan m limit n) on x b behind cells mem lists
+      queues loads closing ne le sites steps k at r lefts) held
 
   judged_alike : (n : ℕ) → AlikeAt (net_judge_from p plan m limit n) n
   unfolding net_judge_from
@@ -72,7 +81,8 @@ module _ (p : Program) (plan : Plan) (m : Marks) (input : List ℤ) (marked : Ma
       let a = held.left in let b = held.total in let c = held.within in absurd (omega (arith, a, b, c))
   judged_alike (suc n) [] cells mem lists queues loads closing ne le sites steps held =
       let none = ended p plan m input marked t reads (item_list lists) held.came in
-      same_end p plan m input marked laid judge limit lists0 cells0 more more_loads (record { effects = ne; sites = sites; steps = steps; closing = closing }) (lean_place [] mem queues loads closing le) refl
+      same_end p plan m input marked laid judge limit lists0 cells0 more more_loads (record { effects = ne; sites = sites; steps = steps; closing = closing })
+      (lean_place [] mem queues loads closing le) refl
       (record {
         prints = held.prints;
         closing = refl;
@@ -83,27 +93,35 @@ module _ (p : Program) (plan : Plan) (m : Marks) (input : List ℤ) (marked : Ma
         loads_left = λ y r c. held.fed_loads y r c ∙ ap (λ (is : List Item). loads_told y [] is ++ more_loads y) (none (stage_of p plan y));
       })
   judged_alike (suc n) (x ∷ rest) cells mem lists queues loads closing ne le sites steps held =
-      one n (judged_alike n) x rest cells mem lists queues loads closing ne le sites steps held (headed p plan m (suc t) reads input marked x rest held.walk.left)
+      one n (judged_alike n) x rest cells mem lists queues loads closing ne le sites steps held
+      (headed p plan m (suc t) reads input marked x rest held.walk.left)
 
-  pub begins_alike : (xs : List Stmt) (mem : List ℤ) (queues : ℕ → List Told) (loads : ℕ → List (List Load)) → HeldAt (limit + 1) xs cells0 mem lists0 queues loads [] [] 0 →
-      SameAt (net_judge_from p plan m limit (limit + 1) (net_place xs cells0 lists0 false [] [] 0)) (lean_place (leaned p plan m (suc t) xs) mem queues loads false [])
+  pub begins_alike : (xs : List Stmt) (mem : List ℤ) (queues : ℕ → List Told) (loads : ℕ → List (List Load)) →
+      HeldAt (limit + 1) xs cells0 mem lists0 queues loads [] [] 0 →
+      SameAt (net_judge_from p plan m limit (limit + 1) (net_place xs cells0 lists0 false [] [] 0))
+      (lean_place (leaned p plan m (suc t) xs) mem queues loads false [])
   begins_alike xs mem queues loads held = judged_alike (limit + 1) xs cells0 mem lists0 queues loads false [] [] [] 0 held
 
-module _ (p : Program) (plan : Plan) (ok : Accepted p plan) (k : ℕ) (up : Ascends k (map site_in (region_accesses p plan))) (m : Marks) (test : Stmt → Bool) (input : List ℤ) (q : Quieted (epoch_of (some_epoch p plan ok k up m test input)) m test) where
+module _ (p : Program) (plan : Plan) (ok : Accepted p plan) (k : ℕ) (up : Ascends k (map access_site (region_accesses p plan))) (m : Marks) (test : Stmt → Bool)
+    (input : List ℤ) (q : Quieted (epoch_of (some_epoch p plan ok k up m test input)) m test) where
   abbrev stages : ℕ
   stages = length plan.stages
 
   judge : is_judge p plan (suc (length plan.stages)) ≡ true
   judge = lt-ltb (length plan.stages) (suc (length plan.stages)) (omega arith)
 
-  module _ (limit : ℕ) (lists : List (List Item)) (came : Came p plan m (suc (length plan.stages)) lists) (cells mem : List ℤ) (agrees : AgreesOn p plan (suc (length plan.stages)) cells mem) (queues more : ℕ → List Told) (queued : Queued p plan m (suc (length plan.stages)) lists queues more)
+  module _ (limit : ℕ) (lists : List (List Item)) (came : Came p plan m (suc (length plan.stages)) lists) (cells mem : List ℤ)
+      (agrees : AgreesOn p plan (suc (length plan.stages)) cells mem) (queues more : ℕ → List Told)
+      (queued : Queued p plan m (suc (length plan.stages)) lists queues more)
       (loads more_loads : ℕ → List (List Load)) (loads_queued : LoadsQueued p plan m lists loads more_loads) where
     abbrev lean_start : LeanJudging
     lean_start = lean_judging p plan m mem queues loads
 
     -- within this limit the steps are enough
-    enough : (high : ℕ) → all_steps lists ≤ high → Same p plan m input q.marked ok.laid judge high lists cells more more_loads (net_judge_lists p plan m high cells lists) lean_start
-    enough high within = begins_alike p plan m input q.marked ok.laid judge high lists cells more more_loads (text p plan ok k up m test input q (suc stages)) mem queues loads
+    enough : (high : ℕ) → all_steps lists ≤ high → Same p plan m input q.marked ok.laid judge high lists cells more more_loads
+        (net_judge_lists p plan m high cells lists) lean_start
+    enough high within =
+        begins_alike p plan m input q.marked ok.laid judge high lists cells more more_loads (text p plan ok k up m test input q (suc stages)) mem queues loads
         (record {
           walk = walkable p plan ok k up m test input q stages;
           came = brings p plan ok k up m test input q stages (item_list lists) came.follows;
@@ -125,20 +143,24 @@ module _ (p : Program) (plan : Plan) (ok : Accepted p plan) (k : ℕ) (up : Asce
     over : limit < all_steps lists → Result (net_judge_lists p plan m limit cells lists)
     over high =
         let r = enough (all_steps lists) (omega arith) in
-        let none = spends p plan m input q.marked (Rattle.dp_lean.specs.Laws.is_read p plan m (suc stages)) limit (limit + 1) (text p plan ok k up m test input q (suc stages)) cells lists false [] [] 0
-        (walkable p plan ok k up m test input q stages) (brings p plan ok k up m test input q stages (item_list lists) came.follows) (omega arith) (omega (arith, high)) in
+        let none = spends p plan m input q.marked (Rattle.dp_lean.specs.Laws.is_read p plan m (suc stages)) limit (limit + 1)
+        (text p plan ok k up m test input q (suc stages)) cells lists false [] [] 0
+        (walkable p plan ok k up m test input q stages) (brings p plan ok k up m test input q stages (item_list lists) came.follows) (omega arith)
+        (omega (arith, high)) in
         (r.0, r.1, subst (λ (o : Option NetAgreed). JudgesAlike p plan m limit lists more more_loads cells o r.0) (sym none) (spent high))
 
     under : all_steps lists ≤ limit → Result (net_judge_lists p plan m limit cells lists)
     under low = let r = enough limit low in (r.0, r.1, by (net_judge_lists p plan m limit cells lists) r.0 r.2)
       where
-        by : (o : Option NetAgreed) (end : LeanJudgement) → EndsSo p plan m input q.marked ok.laid judge limit lists cells more more_loads o end → JudgesAlike p plan m limit lists more more_loads cells o end
+        by : (o : Option NetAgreed) (end : LeanJudgement) → EndsSo p plan m input q.marked ok.laid judge limit lists cells more more_loads o end →
+            JudgesAlike p plan m limit lists more more_loads cells o end
         by (Some a) (Holds f) e = alike low e
         by None Differs e = differs
         by (Some a) Differs e = absurd e
         by None (Holds f) e = absurd e
 
-    pub lists_judged : (end : LeanJudgement) × JudgesIn p plan m (lean_judging p plan m mem queues loads) end × JudgesAlike p plan m limit lists more more_loads cells (net_judge_lists p plan m limit cells lists) end
+    pub lists_judged : (end : LeanJudgement) × JudgesIn p plan m (lean_judging p plan m mem queues loads) end
+        × JudgesAlike p plan m limit lists more more_loads cells (net_judge_lists p plan m limit cells lists) end
     lists_judged = elim (cases_lt limit (all_steps lists)) [ inl high ↦ over high | inr low ↦ under low ]
 
 pub lean_judges : (p : Program) (plan : Plan) → IsInlined p → fits_plan p plan ≡ true → LeanJudgesAreJudges p plan
@@ -147,7 +169,8 @@ lean_judges p plan inlined fits pays limit packet alive came cells mem agrees qu
     let up = numbered p plan inlined ok in
     by packet.status alive
     (lists_judged p plan ok up.0 up.1 (marks_of p plan pays) (all_sound p plan) []
-    (quieted (some_epoch p plan ok up.0 up.1 (marks_of p plan pays) (all_sound p plan) []) fits up.0 up.1 pays) limit packet.lists came cells mem agrees queues more queued loads more_loads loads_queued)
+    (quieted (some_epoch p plan ok up.0 up.1 (marks_of p plan pays) (all_sound p plan) []) fits up.0 up.1 pays) limit packet.lists came cells mem agrees queues
+    more queued loads more_loads loads_queued)
   where
     Result : Option NetAgreed → Type 0
     Result o = (end : LeanJudgement) × JudgesIn p plan (marks_of p plan pays) (lean_judging p plan (marks_of p plan pays) mem queues loads) end

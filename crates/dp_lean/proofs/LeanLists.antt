@@ -1,5 +1,8 @@
 -- The lean text by its statements: what is left of one after the other, and of a block.
-use Rattle.dp_semantics.proofs.Names.{◌≡◌, refl, sym, ap, ◌∙◌, ℕ, zero, suc, Bool, true, false, ◌||◌, if◌then◌else◌, List, [], ◌∷◌, ◌++◌, length, opened_statement, hidden-the_row-Stmt-0, rolls-Assign, rolls-Store, rolls-Print, rolls-If, rolls-While, rolls-Region, rolls-Break, rolls-Call, Stmt, out-Stmt, roll-Stmt, roll-out-Stmt, Stmt-F, Assign, Store, Print, If, While, Region, Break, Call, Program, Plan}
+use Rattle.dp_semantics.proofs.Names.{◌≡◌, refl, sym, ap, ◌∙◌, ℕ, zero, suc, Bool, true, false, ◌||◌, if◌then◌else◌, List, [], ◌∷◌, ◌++◌, length}
+use Rattle.dp_semantics.proofs.Names.{opened_statement, hidden-the_row-Stmt-0, rolls-Assign, rolls-Store, rolls-Print, rolls-If, rolls-While, rolls-Region}
+use Rattle.dp_semantics.proofs.Names.{rolls-Break, rolls-Call, Stmt, out-Stmt, roll-Stmt, roll-out-Stmt, Stmt-F, Assign, Store, Print, If, While, Region, Break}
+use Rattle.dp_semantics.proofs.Names.{Call, Program, Plan}
 use Rattle.dp_tree.specs.declared.Stmt.TheVariants as tree
 use Rattle.dp_net.specs.NetItems.{Marks}
 use Rattle.dp_net.specs.BlockText.{own_site}

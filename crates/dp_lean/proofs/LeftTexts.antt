@@ -1,5 +1,6 @@
 -- A text with its blocks, whose sites are read where their statements are left: what stands at its head, and what is left of that.
-use Rattle.dp_semantics.proofs.Names.{◌≡◌, refl, sym, ap, ◌∙◌, subst, append_assoc, ℕ, Bool, true, false, not, List, [], ◌∷◌, ◌++◌, outs-If, SiteId, Expr, Stmt, out-Stmt, Stmt-F, Assign, Store, Print, If, While, Break, Program, Plan, site_of}
+use Rattle.dp_semantics.proofs.Names.{◌≡◌, refl, sym, ap, ◌∙◌, subst, append_assoc, ℕ, Bool, true, false, not, List, [], ◌∷◌, ◌++◌, outs-If, SiteId, Expr, Stmt}
+use Rattle.dp_semantics.proofs.Names.{out-Stmt, Stmt-F, Assign, Store, Print, If, While, Break, Program, Plan, site_of}
 use Rattle.dp_tree.specs.declared.Stmt.TheVariants as tree
 use Rattle.dp_tree.specs.declared.Stmt.TheVariants.{outs-While}
 use Rattle.dp_tree.specs.declared.Stmt.TheViews.{outs-Assign, outs-Store, outs-Print, outs-Break}
@@ -64,7 +65,8 @@ module _ (p : Program) (plan : Plan) (m : Marks) (s : ℕ) where
     left_join (leaf plain is u s) t = leaf plain is u (left_join s t)
     left_join (choice plain is u c d s) t = choice plain is u c d (left_join s t)
     left_join (loop plain is u c s) t = loop plain is u c (left_join s t)
-    left_join {b = c} (block {x = x} {b = b} {rest = rest} at is u s) t = block at (ap (λ (ys : List Stmt). ys ++ c) is ∙ append_assoc b rest c) u (left_join s t)
+    left_join {b = c} (block {x = x} {b = b} {rest = rest} at is u s) t =
+        block at (ap (λ (ys : List Stmt). ys ++ c) is ∙ append_assoc b rest c) u (left_join s t)
 
     -- What is left of statements, one list behind the other.
     pub lean_join : {a : List Stmt} → Left read a → (b : List Stmt) → leaned p plan m s (a ++ b) ≡ leaned p plan m s a ++ leaned p plan m s b
@@ -108,7 +110,9 @@ module _ (p : Program) (plan : Plan) (m : Marks) (s : ℕ) where
     lean_texts ends = texts.ends
     lean_texts (leaf {x = x} {rest = rest} plain is u t) = leaf_text x rest plain (lean_texts t) (out-Stmt x) refl is
     lean_texts (choice {x = x} {rest = rest} {a = a} {b = b} {site = site} {cond = cond} plain is u c d t) =
-        as_text x _ is plain _ (when_text _ _ _ (texts.choice (plain_as x y (ap (λ (g : Stmt-F Stmt). (site_of g).0) same ∙ sym (ap (λ (g : Stmt-F Stmt). (site_of g).0) is)) plain) same (lean_texts c) (lean_texts d) (lean_texts t)) (lean_texts t)) rest refl
+        as_text x _ is plain _
+        (when_text _ _ _ (texts.choice (plain_as x y (ap (λ (g : Stmt-F Stmt). (site_of g).0) same ∙ sym (ap (λ (g : Stmt-F Stmt). (site_of g).0) is)) plain)
+        same (lean_texts c) (lean_texts d) (lean_texts t)) (lean_texts t)) rest refl
       where
         y : Stmt
         y = tree.If site cond (leaned p plan m s a) (leaned p plan m s b)
@@ -116,7 +120,9 @@ module _ (p : Program) (plan : Plan) (m : Marks) (s : ℕ) where
         same : out-Stmt y ≡ If site cond (leaned p plan m s a) (leaned p plan m s b)
         same = outs-If site cond (leaned p plan m s a) (leaned p plan m s b)
     lean_texts (loop {x = x} {rest = rest} {a = a} {site = site} {cond = cond} plain is u c t) =
-        as_text x _ is plain _ (when_text _ _ _ (texts.loop (plain_as x y (ap (λ (g : Stmt-F Stmt). (site_of g).0) same ∙ sym (ap (λ (g : Stmt-F Stmt). (site_of g).0) is)) plain) same (lean_texts c) (lean_texts t)) (lean_texts t)) rest refl
+        as_text x _ is plain _
+        (when_text _ _ _ (texts.loop (plain_as x y (ap (λ (g : Stmt-F Stmt). (site_of g).0) same ∙ sym (ap (λ (g : Stmt-F Stmt). (site_of g).0) is)) plain) same
+        (lean_texts c) (lean_texts t)) (lean_texts t)) rest refl
       where
         y : Stmt
         y = tree.While site cond (leaned p plan m s a)

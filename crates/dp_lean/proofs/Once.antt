@@ -1,8 +1,11 @@
 -- Sites that stand once: so it is in a region, in each stage's text of it, and in what is left of that.
-use Rattle.dp_semantics.proofs.Names.{◌≡◌, refl, sym, ap, ◌∙◌, subst, arith, ℕ, zero, suc, ◌<◌, ◌==◌, Bool, true, false, ◌||◌, if◌then◌else◌, List, [], ◌∷◌, ◌++◌, length, map, Option, Some, None, nat_le, append-nil, flat_map-append, or_from, or_parts, ne_eqb, list_any-append, hidden-the_row-Stmt-0, outs-If, SiteId, Expr, Stmt, Row_of-Stmt, end_of-Stmt, more_of-Stmt, out-Stmt, If, While, Program, Plan, Access, accesses, accesses_in, assumed_in, branch_of, where_reached, project, project_in, project_all, stage_of}
+use Rattle.dp_semantics.proofs.Names.{◌≡◌, refl, sym, ap, ◌∙◌, subst, arith, ℕ, zero, suc, ◌<◌, ◌==◌, Bool, true, false, ◌||◌, if◌then◌else◌, List, [], ◌∷◌}
+use Rattle.dp_semantics.proofs.Names.{◌++◌, length, map, Option, Some, None, nat_le, append-nil, flat_map-append, or_from, or_parts, ne_eqb, list_any-append}
+use Rattle.dp_semantics.proofs.Names.{hidden-the_row-Stmt-0, outs-If, SiteId, Expr, Stmt, Row_of-Stmt, end_of-Stmt, more_of-Stmt, out-Stmt, If, While, Program}
+use Rattle.dp_semantics.proofs.Names.{Plan, Access, accesses, accesses_in, assumed_in, branch_of, where_reached, project, project_in, project_all, stage_of}
 use Rattle.dp_tree.specs.declared.Stmt.TheVariants as tree
 use Rattle.dp_tree.specs.declared.Stmt.TheVariants.{outs-While}
-use Rattle.dp_plan.specs.Written.{site_in}
+use Rattle.dp_plan.specs.Written.{access_site}
 use Rattle.dp_plan.specs.Checked.{has_site}
 use Rattle.dp_plan.proofs.Ascent.{Ascends}
 use Rattle.dp_semantics.proofs.Heads.{accesses_all, accesses_at, accesses_out}
@@ -62,12 +65,12 @@ once_split (x ∷ a) b o =
     by y absent later true q e = subst (λ (n : ℕ). has_site n b ≡ false) (Rattle.dp_semantics.proofs.Names.eqb-true x.site y q) absent
     by y absent later false q e = later e
 
-absent_above : (y k : ℕ) (all : List Access) → Ascends k (map site_in all) → y < k → has_site y all ≡ false
+absent_above : (y k : ℕ) (all : List Access) → Ascends k (map access_site all) → y < k → has_site y all ≡ false
 absent_above y k [] up low = refl
 absent_above y k (a ∷ all) up low =
     or_from (a.site == y) (has_site y all) (ne_eqb a.site y (λ e. omega (arith, e, up.0, low))) (absent_above y (suc k) all up.1 (omega (arith, low)))
 
-pub once_ascending : (k : ℕ) (all : List Access) → Ascends k (map site_in all) → Once all
+pub once_ascending : (k : ℕ) (all : List Access) → Ascends k (map access_site all) → Once all
 once_ascending k [] up = tt
 once_ascending k (a ∷ all) up = (absent_above a.site (suc k) all up.1 (omega (arith, up.0)), once_ascending (suc k) all up.1)
 
@@ -75,14 +78,16 @@ module _ (p : Program) (plan : Plan) (s : ℕ) where
   alone : (y : Stmt) → accesses_all (y ∷ []) ≡ accesses y
   alone y = append-nil (accesses y)
 
-  reached_part : (site : ℕ) (a b : List Stmt) (all : List Access) → Part (accesses_all a) all → Part (accesses_all b) all → Part (accesses_all (where_reached p plan s site a b)) all
+  reached_part : (site : ℕ) (a b : List Stmt) (all : List Access) → Part (accesses_all a) all → Part (accesses_all b) all →
+      Part (accesses_all (where_reached p plan s site a b)) all
   reached_part site a b all q r = by (nat_le (stage_of p plan site) s)
     where
       by : (c : Bool) → Part (accesses_all (if c then a else b)) all
       by true = q
       by false = r
 
-  branch_part : (o : Option Bool) (a b : List Stmt) (c d : List Access) → Part (accesses_all a) c → Part (accesses_all b) d → Part (accesses_all (branch_of o a b)) (c ++ d)
+  branch_part : (o : Option Bool) (a b : List Stmt) (c d : List Access) → Part (accesses_all a) c → Part (accesses_all b) d →
+      Part (accesses_all (branch_of o a b)) (c ++ d)
   branch_part None a b c d q r = part_none (c ++ d)
   branch_part (Some true) a b c d q r = subst (λ (l : List Access). Part l (c ++ d)) (append-nil (accesses_all a)) (part_join q (part_none d))
   branch_part (Some false) a b c d q r = part_join (part_none c) r
@@ -110,7 +115,10 @@ module _ (p : Program) (plan : Plan) (s : ℕ) where
         reached_part site.0 _ _ _ (if_part site cond _ _ _ _ one two) (skips _ (branch_part (assumed_in plan.assume site.0) _ _ _ _ one two))
     project_part (tree.While' site cond _ a) = let one = project_part_in a in reached_part site.0 _ [] _ (while_part site cond _ _ one) (part_none _)
     project_part (tree.Region' r site cond _ a) =
-        let one = project_part_in a in subst (λ (l : List Access). Part (accesses_all (tree.If site cond (project_in p plan s a) [] ∷ [])) (record { site = site.0; loads = Rattle.dp_semantics.proofs.Names.loaded_by cond; stores = None } ∷ l)) (append-nil (accesses_in a)) (if_part site cond _ [] _ [] one none)
+        let one = project_part_in a in
+        subst (λ (l : List Access). Part (accesses_all (tree.If site cond (project_in p plan s a) [] ∷ []))
+        (record { site = site.0; loads = Rattle.dp_semantics.proofs.Names.loaded_by cond; stores = None } ∷ l)) (append-nil (accesses_in a))
+        (if_part site cond _ [] _ [] one none)
     project_part (tree.Call f line args) = none
 
     project_part_in : {n : _} (row : Row_of-Stmt n) → Part (accesses_all (project_in p plan s row)) (accesses_in row)
@@ -140,18 +148,23 @@ module _ (p : Program) (plan : Plan) (s : ℕ) where
     head_part : (block : List Stmt) (x : Stmt) (left : List Stmt) (onward : ℕ → Bool → List Stmt) (all : List Access) → Part (accesses_all left) (accesses x) →
         ((n : ℕ) (b : Bool) → Part (accesses_all (onward n b)) all) → Part (accesses_all (left_of_head p plan m s block x left onward)) (accesses x ++ all)
     head_part [] x left onward all q r = both_part left (onward zero false) (accesses x) all q (r zero false)
-    head_part (y ∷ ys) x left onward all q r = both_part (kept_when (is_kept_block p plan s (y ∷ ys)) x) (onward (length ys) (is_kept_block p plan s (y ∷ ys))) (accesses x) all (when_part (is_kept_block p plan s (y ∷ ys)) x (accesses x) (self_part x)) (r (length ys) (is_kept_block p plan s (y ∷ ys)))
+    head_part (y ∷ ys) x left onward all q r = both_part (kept_when (is_kept_block p plan s (y ∷ ys)) x) (onward (length ys) (is_kept_block p plan s (y ∷ ys)))
+        (accesses x) all (when_part (is_kept_block p plan s (y ∷ ys)) x (accesses x) (self_part x)) (r (length ys) (is_kept_block p plan s (y ∷ ys)))
 
     leaf_part : (b : Bool) (x : Stmt) → Part (accesses_all (kept_when b x)) (accesses x)
     leaf_part b x = when_part b x (accesses x) (self_part x)
 
     choice_part : (site : SiteId) (cond : Expr) (a b : List Stmt) (c d : List Access) → Part (accesses_all a) c → Part (accesses_all b) d →
-        Part (accesses_all (kept_when (is_kept_site p plan s site.0 || has_some p plan m s a b) (tree.If site cond a b))) (Rattle.dp_semantics.proofs.Heads.head_access (If site cond a b) ∷ (c ++ d))
-    choice_part site cond a b c d q r = when_part (is_kept_site p plan s site.0 || has_some p plan m s a b) (tree.If site cond a b) (Rattle.dp_semantics.proofs.Heads.head_access (If site cond a b) ∷ (c ++ d)) (if_part site cond a b c d q r)
+        Part (accesses_all (kept_when (is_kept_site p plan s site.0 || has_some p plan m s a b) (tree.If site cond a b)))
+        (Rattle.dp_semantics.proofs.Heads.head_access (If site cond a b) ∷ (c ++ d))
+    choice_part site cond a b c d q r = when_part (is_kept_site p plan s site.0 || has_some p plan m s a b) (tree.If site cond a b)
+        (Rattle.dp_semantics.proofs.Heads.head_access (If site cond a b) ∷ (c ++ d)) (if_part site cond a b c d q r)
 
     loop_part : (site : SiteId) (cond : Expr) (a : List Stmt) (c : List Access) → Part (accesses_all a) c →
-        Part (accesses_all (kept_when (is_kept_site p plan s site.0 || has_some p plan m s a []) (tree.While site cond a))) (Rattle.dp_semantics.proofs.Heads.head_access (While site cond a) ∷ c)
-    loop_part site cond a c q = when_part (is_kept_site p plan s site.0 || has_some p plan m s a []) (tree.While site cond a) (Rattle.dp_semantics.proofs.Heads.head_access (While site cond a) ∷ c) (while_part site cond a c q)
+        Part (accesses_all (kept_when (is_kept_site p plan s site.0 || has_some p plan m s a []) (tree.While site cond a)))
+        (Rattle.dp_semantics.proofs.Heads.head_access (While site cond a) ∷ c)
+    loop_part site cond a c q = when_part (is_kept_site p plan s site.0 || has_some p plan m s a []) (tree.While site cond a)
+        (Rattle.dp_semantics.proofs.Heads.head_access (While site cond a) ∷ c) (while_part site cond a c q)
 
     mutual
       -- what is left has a part of the sites
@@ -159,7 +172,8 @@ module _ (p : Program) (plan : Plan) (s : ℕ) where
       lean_part (tree.Assign site x e) = leaf_part (is_kept_site p plan s site.0 || is_done_to p plan s x.0) (tree.Assign site x e)
       lean_part (tree.Store site x index e) = leaf_part (is_kept_site p plan s site.0 || is_done_to p plan s x.0) (tree.Store site x index e)
       lean_part (tree.Print site e) = leaf_part (is_kept_site p plan s site.0 || is_judge p plan s) (tree.Print site e)
-      lean_part (tree.If' site cond h a k b) = choice_part site cond (lean_row p plan m s zero false a) (lean_row p plan m s zero false b) (accesses_in a) (accesses_in b) (lean_part_in zero false a) (lean_part_in zero false b)
+      lean_part (tree.If' site cond h a k b) = choice_part site cond (lean_row p plan m s zero false a) (lean_row p plan m s zero false b) (accesses_in a)
+          (accesses_in b) (lean_part_in zero false a) (lean_part_in zero false b)
       lean_part (tree.While' site cond h a) = loop_part site cond (lean_row p plan m s zero false a) (accesses_in a) (lean_part_in zero false a)
       lean_part (tree.Region' r site cond h a) = self_part (tree.Region' r site cond h a)
       lean_part (tree.Break site cond) = part_self _
@@ -167,10 +181,14 @@ module _ (p : Program) (plan : Plan) (s : ℕ) where
 
       lean_part_in : {n : _} (left : ℕ) (kept : Bool) (row : Row_of-Stmt n) → Part (accesses_all (lean_row p plan m s left kept row)) (accesses_in row)
       lean_part_in left kept end_of-Stmt = none
-      lean_part_in (suc left) kept (more_of-Stmt x rest) = both_part (kept_when kept x) (lean_row p plan m s left kept rest) (accesses x) (accesses_in rest) (when_part kept x (accesses x) (self_part x)) (lean_part_in left kept rest)
-      lean_part_in zero kept (more_of-Stmt x rest) = head_part (m.block_at (own_site p plan x)) x (lean p plan m s x) (λ n b. lean_row p plan m s n b rest) (accesses_in rest) (lean_part x) (λ n b. lean_part_in n b rest)
+      lean_part_in (suc left) kept (more_of-Stmt x rest) = both_part (kept_when kept x) (lean_row p plan m s left kept rest) (accesses x) (accesses_in rest)
+          (when_part kept x (accesses x) (self_part x)) (lean_part_in left kept rest)
+      lean_part_in zero kept (more_of-Stmt x rest) = head_part (m.block_at (own_site p plan x)) x (lean p plan m s x) (λ n b. lean_row p plan m s n b rest)
+          (accesses_in rest) (lean_part x) (λ n b. lean_part_in n b rest)
 
     pub lean_part_all : (left : ℕ) (kept : Bool) (xs : List Stmt) → Part (accesses_all (lean_list p plan m s left kept xs)) (accesses_all xs)
     lean_part_all left kept [] = none
-    lean_part_all (suc left) kept (x ∷ rest) = both_part (kept_when kept x) (lean_list p plan m s left kept rest) (accesses x) (accesses_all rest) (when_part kept x (accesses x) (self_part x)) (lean_part_all left kept rest)
-    lean_part_all zero kept (x ∷ rest) = head_part (m.block_at (own_site p plan x)) x (lean p plan m s x) (λ n b. lean_list p plan m s n b rest) (accesses_all rest) (lean_part x) (λ n b. lean_part_all n b rest)
+    lean_part_all (suc left) kept (x ∷ rest) = both_part (kept_when kept x) (lean_list p plan m s left kept rest) (accesses x) (accesses_all rest)
+        (when_part kept x (accesses x) (self_part x)) (lean_part_all left kept rest)
+    lean_part_all zero kept (x ∷ rest) = head_part (m.block_at (own_site p plan x)) x (lean p plan m s x) (λ n b. lean_list p plan m s n b rest)
+        (accesses_all rest) (lean_part x) (λ n b. lean_part_all n b rest)

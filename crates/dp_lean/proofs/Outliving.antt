@@ -1,5 +1,8 @@
 -- Memories that differ in body locals alone, and what the judge leaves out of an iteration's stores.
-use Rattle.dp_semantics.proofs.Names.{◌≡◌, inl, inr, refl, sym, ap, ◌∙◌, subst, arith, ℕ, ◌<◌, Bool, true, false, not, ◌||◌, ◌&&◌, if◌then◌else◌, List, [], ◌∷◌, ◌++◌, ℤ, pos, length, Option, Some, None, unwrap_or, get_or, get_or_past, filter_map, cons_option, list_any, list_all, and_parts, or_parts, ne_eqb, cases_Bool, cases_lt, flat_map, Stmt, Stmt-F, Program, Plan, Effect, Stored, Printed, Decided, Tried, applied, clear_locals, is_local_cell, is_local_at, is_body_local, is_cell_of, Access, accesses}
+use Rattle.dp_semantics.proofs.Names.{◌≡◌, inl, inr, refl, sym, ap, ◌∙◌, subst, arith, ℕ, ◌<◌, Bool, true, false, not, ◌||◌, ◌&&◌, if◌then◌else◌, List, [], ◌∷◌}
+use Rattle.dp_semantics.proofs.Names.{◌++◌, ℤ, pos, length, Option, Some, None, unwrap_or, get_or, get_or_past, filter_map, cons_option, list_any, list_all}
+use Rattle.dp_semantics.proofs.Names.{and_parts, or_parts, ne_eqb, cases_Bool, cases_lt, flat_map, Stmt, Stmt-F, Program, Plan, Effect, Stored, Printed}
+use Rattle.dp_semantics.proofs.Names.{Decided, Tried, applied, clear_locals, is_local_cell, is_local_at, is_body_local, is_cell_of, Access, accesses}
 use Rattle.std.proofs.lemmas.List.{ext_get_or}
 use Rattle.dp_semantics.specs.Told.{store_made, with_stores}
 use Rattle.dp_semantics.proofs.Evaluation.{InVar, Form, head_stores}
@@ -16,7 +19,8 @@ pub filter_join : {X Y : Type 0} (f : X → Option Y) (a b : List X) → filter_
 filter_join f [] b = refl
 filter_join {Y = Y} f (x ∷ a) b = by (f x) (filter_join f a b)
   where
-    by : (o : Option Y) → filter_map f (a ++ b) ≡ filter_map f a ++ filter_map f b → cons_option o (filter_map f (a ++ b)) ≡ cons_option o (filter_map f a) ++ filter_map f b
+    by : (o : Option Y) → filter_map f (a ++ b) ≡ filter_map f a ++ filter_map f b → cons_option o (filter_map f (a ++ b)) ≡ cons_option o
+        (filter_map f a) ++ filter_map f b
     by None e = e
     by (Some y) e = ap (λ ys. y ∷ ys) e
 
@@ -37,13 +41,15 @@ module _ (p : Program) (plan : Plan) where
   abbrev pub Local : List Effect → Type 0
   Local es = (c : ℕ) → is_local_at p plan c ≡ false → last_of c es ≡ None
 
-  outlives_after : (es fs : List Effect) (a b : List ℤ) → ((c : ℕ) → is_local_at p plan c ≡ false → last_of c fs ≡ last_of c es) → Outlives a b → Outlives (applied es a) (applied fs b)
+  outlives_after : (es fs : List Effect) (a b : List ℤ) → ((c : ℕ) → is_local_at p plan c ≡ false → last_of c fs ≡ last_of c es) → Outlives a b →
+      Outlives (applied es a) (applied fs b)
   outlives_after es fs a b same ab = record {
     size = applied_size fs b ∙ ab.size ∙ sym (applied_size es a);
     same = λ c o. elim (cases_lt c (length a)) [
       | inl within ↦ applied_get fs b c (omega (arith, within, ab.size)) ∙ ap (λ (u : Option ℤ). unwrap_or u (get_or b c (pos 0))) (same c o)
           ∙ ap (unwrap_or (last_of c es)) (ab.same c o) ∙ sym (applied_get es a c within)
-      | inr past ↦ get_or_past (applied fs b) c (pos 0) (omega (arith, past, applied_size fs b, ab.size)) ∙ sym (get_or_past (applied es a) c (pos 0) (omega (arith, past, applied_size es a)))
+      | inr past ↦ get_or_past (applied fs b) c (pos 0) (omega (arith, past, applied_size fs b, ab.size))
+          ∙ sym (get_or_past (applied es a) c (pos 0) (omega (arith, past, applied_size es a)))
     ];
   }
 
@@ -56,15 +62,18 @@ module _ (p : Program) (plan : Plan) where
 
   -- The memories are the same where the next iteration starts.
   pub cleared_same : (a b : List ℤ) → Outlives a b → clear_locals plan.region p.vars b ≡ clear_locals plan.region p.vars a
-  cleared_same a b ab = ext_get_or (pos 0) (clear_locals plan.region p.vars b) (clear_locals plan.region p.vars a) (clear_size plan.region p.vars b ∙ ab.size ∙ sym (clear_size plan.region p.vars a))
+  cleared_same a b ab = ext_get_or (pos 0) (clear_locals plan.region p.vars b) (clear_locals plan.region p.vars a) (clear_size plan.region p.vars b ∙ ab.size
+      ∙ sym (clear_size plan.region p.vars a))
       (λ c within. elim (cases_Bool (list_any (is_local_cell plan.region c) p.vars)) [
         | inl e ↦ clear-at plan.region c p.vars b (inl e) ∙ sym (clear-at plan.region c p.vars a (inl e))
         | inr e ↦ clear-other plan.region c p.vars b e ∙ ab.same c e ∙ sym (clear-other plan.region c p.vars a e)
       ])
 
   pub stores_cleared : (es fs : List Effect) → ((from : List ℤ) → Outlives (applied es from) (applied fs from)) → (from : List ℤ) →
-      clear_locals plan.region p.vars (with_stores (filter_map store_made fs) from) ≡ clear_locals plan.region p.vars (with_stores (filter_map store_made es) from)
-  stores_cleared es fs all from = ap (clear_locals plan.region p.vars) (sym (stores_are_all fs from)) ∙ cleared_same (applied es from) (applied fs from) (all from)
+      clear_locals plan.region p.vars (with_stores (filter_map store_made fs) from) ≡ clear_locals plan.region p.vars
+      (with_stores (filter_map store_made es) from)
+  stores_cleared es fs all from =
+      ap (clear_locals plan.region p.vars) (sym (stores_are_all fs from)) ∙ cleared_same (applied es from) (applied fs from) (all from)
       ∙ ap (clear_locals plan.region p.vars) (stores_are_all es from)
 
   module _ (laid : Laid p plan) (s : ℕ) (judge : is_judge p plan s ≡ true) where
@@ -96,7 +105,8 @@ module _ (p : Program) (plan : Plan) where
         by h (Decided z) f u = refl
         by h (Tried z) f u = refl
 
-    pub block_local : (block : List Stmt) (es : List Effect) → list_all (stores_among p plan (flat_map accesses block)) es ≡ true → store_inside p plan s block ≡ false → Local es
+    pub block_local : (block : List Stmt) (es : List Effect) → list_all (stores_among p plan (flat_map accesses block)) es ≡ true →
+        store_inside p plan s block ≡ false → Local es
     block_local block [] e u c o = refl
     block_local block (f ∷ es) e u c o =
         let both = and_parts (stores_among p plan (flat_map accesses block) f) (list_all (stores_among p plan (flat_map accesses block)) es) e in

@@ -1,7 +1,9 @@
 -- A plan that fits its program has all that is asked of a stage's text, so its lean turns are its turns.
-use Rattle.dp_semantics.proofs.Names.{◌≡◌, refl, sym, ap, ◌∙◌, subst, append-nil, arith, le-ltb, ℕ, zero, suc, ◌+◌, ◌≤◌, Bool, true, false, List, [], ◌∷◌, ℤ, length, map, list_all, flat_map, and_parts, slice_get, sum_by, Stmt, Program, Plan, Access, accesses, region_accesses, region_statement, project_all, fits_plan}
+use Rattle.dp_semantics.proofs.Names.{◌≡◌, refl, sym, ap, ◌∙◌, subst, append-nil, arith, le-ltb, ℕ, zero, suc, ◌+◌, ◌≤◌, Bool, true, false, List, [], ◌∷◌, ℤ}
+use Rattle.dp_semantics.proofs.Names.{length, map, list_all, flat_map, and_parts, slice_get, sum_by, Stmt, Program, Plan, Access, accesses, region_accesses}
+use Rattle.dp_semantics.proofs.Names.{region_statement, project_all, fits_plan}
 use Rattle.dp_tree.specs.Inlined.{IsInlined}
-use Rattle.dp_plan.specs.Written.{site_in}
+use Rattle.dp_plan.specs.Written.{access_site}
 use Rattle.dp_plan.proofs.Ascent.{Ascends, ascends-numbers_from}
 use Rattle.dp_plan.proofs.RegionOrder.{Sought, absent, present, find_region}
 use Rattle.dp_semantics.specs.EpochKey.{EpochKey, epoch_of}
@@ -9,7 +11,7 @@ use Rattle.dp_semantics.proofs.Setting.{Accepted}
 use Rattle.dp_theorem.proofs.Fitting.{accepted}
 use Rattle.dp_net.specs.NetItems.{Marks, Item, weights, item_list, items_in}
 use Rattle.dp_net.specs.NetRun.{net_run}
-use Rattle.dp_net.specs.Follows.{Follows}
+use Rattle.dp_net.specs.Follows.{FollowsText}
 use Rattle.dp_net.specs.Hidden.{marks_of}
 use Rattle.dp_net.proofs.Assembled.{quieted}
 use Rattle.dp_net.proofs.HiddenCells.{all_sound}
@@ -24,14 +26,21 @@ use Rattle.dp_lean.proofs.Alongside.{OfText}
 use Rattle.dp_lean.proofs.LeanTurns.{alike}
 
 -- An inlined program's sites go up one by one.
-pub numbered : (p : Program) (plan : Plan) → IsInlined p → Accepted p plan → (k : ℕ) × Ascends k (map site_in (region_accesses p plan))
-numbered p plan inlined ok = by (find_region p.main 1 1 p.regions inlined.regions inlined.table (subst (λ (ns : List ℕ). Ascends 1 ns) (sym inlined.sites) (ascends-numbers_from 1 (length p.sites))) plan.region)
+pub numbered : (p : Program) (plan : Plan) → IsInlined p → Accepted p plan → (k : ℕ) × Ascends k (map access_site (region_accesses p plan))
+numbered p plan inlined ok =
+    by (find_region p.main 1 1 p.regions inlined.regions inlined.table (subst (λ (ns : List ℕ). Ascends 1 ns) (sym inlined.sites)
+    (ascends-numbers_from 1 (length p.sites))) plan.region)
   where
-    by : Sought plan.region 1 1 p.main p.regions → (k : ℕ) × Ascends k (map site_in (region_accesses p plan))
+    by : Sought plan.region 1 1 p.main p.regions → (k : ℕ) × Ascends k (map access_site (region_accesses p plan))
     by (absent none high) = let clash : [] ≡ ok.statement ∷ [] = sym none ∙ ok.region in absurd (cc clash)
-    by (present entry low at region first beyond) = (entry.first.0, subst (λ (l : List Access). Ascends entry.first.0 (map site_in l)) (sym (append-nil (accesses region.statement)) ∙ ap (λ (xs : List Stmt). flat_map accesses xs) (sym region.only)) region.sites)
+    by (present entry low at region first beyond) = (
+      entry.first.0,
+      subst (λ (l : List Access). Ascends entry.first.0 (map access_site l)) (sym (append-nil (accesses region.statement))
+          ∙ ap (λ (xs : List Stmt). flat_map accesses xs) (sym region.only)) region.sites,
+    )
 
-module _ (p : Program) (plan : Plan) (ok : Accepted p plan) (k : ℕ) (up : Ascends k (map site_in (region_accesses p plan))) (m : Marks) (test : Stmt → Bool) (input : List ℤ) where
+module _ (p : Program) (plan : Plan) (ok : Accepted p plan) (k : ℕ) (up : Ascends k (map access_site (region_accesses p plan))) (m : Marks) (test : Stmt → Bool)
+    (input : List ℤ) where
   -- an epoch of the program and the plan
   abbrev pub some_epoch : EpochKey
   some_epoch = record { program = p; plan = plan; input = input; first = 0; base = []; steps = 0; fuel = 0 }
@@ -49,12 +58,12 @@ module _ (p : Program) (plan : Plan) (ok : Accepted p plan) (k : ℕ) (up : Asce
           (once_part (project_part_all p plan (suc t) (region_statement p plan)) (once_ascending k (region_accesses p plan) up));
     }
 
-    pub brings : (t : ℕ) (left : ℕ → List Item) → Follows p plan m (came_text p plan (suc t)) left → Brings p plan m input q.marked t (text (suc t)) left
+    pub brings : (t : ℕ) (left : ℕ → List Item) → FollowsText p plan m (came_text p plan (suc t)) left → Brings p plan m input q.marked t (text (suc t)) left
     brings t left f = by t f
       where
-        by : (n : ℕ) → Follows p plan m (came_text p plan (suc n)) left → Follows p plan m (came_part p plan m input q.marked t n (text (suc n))) left
+        by : (n : ℕ) → FollowsText p plan m (came_text p plan (suc n)) left → FollowsText p plan m (came_part p plan m input q.marked t n (text (suc n))) left
         by zero f = f
-        by (suc n) f = subst (λ (xs : List Stmt). Follows p plan m xs left) (sym (earlier_part ok (suc n) (suc (suc n)) (omega arith) (omega arith))) f
+        by (suc n) f = subst (λ (xs : List Stmt). FollowsText p plan m xs left) (sym (earlier_part ok (suc n) (suc (suc n)) (omega arith) (omega arith))) f
 
     pub of_text : (lists : List (List Item)) → are_of_text p plan m lists ≡ true → OfText p plan m (item_list lists)
     of_text lists e zero = refl
@@ -66,11 +75,13 @@ module _ (p : Program) (plan : Plan) (ok : Accepted p plan) (k : ℕ) (up : Asce
         by (is ∷ lists) zero e = (and_parts (list_all (is_of_text p plan m) is) (are_of_text p plan m lists) e).0
         by (is ∷ lists) (suc y) e = by lists y (and_parts (list_all (is_of_text p plan m) is) (are_of_text p plan m lists) e).1
 
-    pub runs_alike : (t : ℕ) → suc t ≤ length plan.stages → (lists : List (List Item)) → Came p plan m (suc t) lists → (cells mem : List ℤ) → AgreesOn p plan (suc t) cells mem →
+    pub runs_alike : (t : ℕ) → suc t ≤ length plan.stages → (lists : List (List Item)) → Came p plan m (suc t) lists → (cells mem : List ℤ) →
+        AgreesOn p plan (suc t) cells mem →
         (queues more : ℕ → List Told) → Queued p plan m (suc t) lists queues more →
         RunsAlike p plan m input (suc t) queues more (net_run p plan m input (suc t) cells lists) mem
     runs_alike t high lists came cells mem agrees queues more queued =
-        alike p plan m input q.marked ok.laid t (le-ltb (length plan.stages) (suc t) high) more (plan.words + sum_by weights lists + 1) (text (suc t)) cells mem lists queues [] false
+        alike p plan m input q.marked ok.laid t (le-ltb (length plan.stages) (suc t) high) more (plan.words + sum_by weights lists + 1) (text (suc t)) cells mem
+        lists queues [] false
         (record {
           walk = walkable t;
           came = brings t (item_list lists) came.follows;

@@ -1,5 +1,7 @@
 -- What a list tells of a site, where words or a block stand in front.
-use Rattle.dp_semantics.proofs.Names.{◌≡◌, inl, inr, refl, sym, ap, ◌∙◌, append_assoc, ℕ, ◌==◌, Bool, true, false, if◌then◌else◌, List, [], ◌∷◌, ◌++◌, Option, Some, None, cons_option, eq-eqb, ne_eqb, and-false, cases_eq, Stmt, Stmt-F, Program, Plan, Word, Load, Event, Effect, site_of, value_of, stage_of, is_checked, effect_by, load_words, load_word, done_word, words_of}
+use Rattle.dp_semantics.proofs.Names.{◌≡◌, inl, inr, refl, sym, ap, ◌∙◌, append_assoc, ℕ, ◌==◌, Bool, true, false, if◌then◌else◌, List, [], ◌∷◌, ◌++◌, Option}
+use Rattle.dp_semantics.proofs.Names.{Some, None, cons_option, eq-eqb, ne_eqb, and-false, cases_eq, Stmt, Stmt-F, Program, Plan, Word, Load, Event, Effect}
+use Rattle.dp_semantics.proofs.Names.{site_of, value_of, stage_of, is_checked, effect_by, load_words, load_word, done_word, words_of}
 use Rattle.dp_semantics.specs.Words.{cell_of}
 use Rattle.dp_net.specs.NetItems.{Item, Said, Net, said_all}
 use Rattle.dp_net.specs.Follows.{Says, Others}
@@ -46,7 +48,9 @@ module _ (p : Program) (plan : Plan) where
           ∙ told_loads y event.site event.loads (Said (done_word event.site event.effect) ∷ rest)
       by false = refl
 
-  module _ (h : Stmt-F Stmt) (event : Event) (left next : ℕ → List Item) (says : Says p plan h event (left (stage_of p plan (site_of h).0)) (next (stage_of p plan (site_of h).0))) (others : Others (stage_of p plan (site_of h).0) left next) where
+  module _ (h : Stmt-F Stmt) (event : Event) (left next : ℕ → List Item)
+      (says : Says p plan h event (left (stage_of p plan (site_of h).0)) (next (stage_of p plan (site_of h).0)))
+      (others : Others (stage_of p plan (site_of h).0) left next) where
     abbrev f : ℕ
     f = (site_of h).0
 
@@ -64,20 +68,23 @@ module _ (p : Program) (plan : Plan) where
     -- .. and the others are what they were
     pub queue_there : (y : ℕ) → (y ≡ f → ⊥) → queue_of p plan left y ≡ queue_of p plan next y
     queue_there y other = elim (cases_eq (stage_of p plan y) u) [
-      | inl same ↦ ap (λ (t : ℕ). told_in y (left t)) same ∙ front_told y ∙ done_there y f event.effect (next u) (λ e. other (sym e)) ∙ ap (λ (t : ℕ). told_in y (next t)) (sym same)
+      | inl same ↦ ap (λ (t : ℕ). told_in y (left t)) same ∙ front_told y ∙ done_there y f event.effect (next u) (λ e. other (sym e))
+          ∙ ap (λ (t : ℕ). told_in y (next t)) (sym same)
       | inr differs ↦ ap (told_in y) (sym (others (stage_of p plan y) differs))
     ]
 
     pub effect_here : effect_told p h (did event.effect) ≡ Some event.effect
     effect_here = ap (λ (site : ℕ). effect_by p h (done_word site event.effect)) (sym says.site) ∙ says.does
 
-  module _ (f : ℕ) (count : ℕ) (stores : List Effect) (left next : ℕ → List Item) (front : left (stage_of p plan f) ≡ Net f count stores ∷ next (stage_of p plan f)) (others : Others (stage_of p plan f) left next) where
+  module _ (f : ℕ) (count : ℕ) (stores : List Effect) (left next : ℕ → List Item)
+      (front : left (stage_of p plan f) ≡ Net f count stores ∷ next (stage_of p plan f)) (others : Others (stage_of p plan f) left next) where
     pub block_here : queue_of p plan left f ≡ DidBlock stores ∷ queue_of p plan next f
     block_here = ap (told_in f) front ∙ told_take f (Net f count stores) (DidBlock stores) (next (stage_of p plan f)) (rw (eq-eqb f f refl) refl)
 
     pub block_there : (y : ℕ) → (y ≡ f → ⊥) → queue_of p plan left y ≡ queue_of p plan next y
     block_there y other = elim (cases_eq (stage_of p plan y) (stage_of p plan f)) [
       | inl same ↦ ap (λ (t : ℕ). told_in y (left t)) same ∙ ap (told_in y) front
-          ∙ told_skip y (Net f count stores) (next (stage_of p plan f)) (rw (ne_eqb f y (λ e. other (sym e))) refl) ∙ ap (λ (t : ℕ). told_in y (next t)) (sym same)
+          ∙ told_skip y (Net f count stores) (next (stage_of p plan f)) (rw (ne_eqb f y (λ e. other (sym e))) refl)
+          ∙ ap (λ (t : ℕ). told_in y (next t)) (sym same)
       | inr differs ↦ ap (told_in y) (sym (others (stage_of p plan y) differs))
     ]

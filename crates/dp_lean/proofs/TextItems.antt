@@ -1,5 +1,10 @@
 -- What a stage tells is of the text: it loads what its sites load, and its blocks store into their own statements' variables.
-use Rattle.dp_semantics.proofs.Names.{◌≡◌, inl, inr, refl, sym, ap, ◌∙◌, subst, arith, ℕ, zero, suc, ◌+◌, ◌<◌, ◌≤◌, ◌==◌, Bool, true, false, ◌&&◌, ◌||◌, if◌then◌else◌, List, [], ◌∷◌, ◌++◌, drop-append_seam, ℤ, length, map, Option, Some, None, Ok, Err, list_all, list_any, list_all-append, flat_map-append, and_parts, and_from, eq-eqb, eqb-true, ne_eqb, nat_le, cases_Bool, cases_eq, or-true, slice_set, Stmt, out-Stmt, Stmt-F, Program, Plan, Word, Load, Event, Evaluated, evaluated, WithLoads, Effect, Stored, Printed, Decided, Tried, site_of, value_of, stored, followed, stage_of, is_checked, cell_count, load_words, load_word, done_word, words_of, event_as_assumed, Access, accesses, region_accesses, is_cell_of, well_nested}
+use Rattle.dp_semantics.proofs.Names.{◌≡◌, inl, inr, refl, sym, ap, ◌∙◌, subst, arith, ℕ, zero, suc, ◌+◌, ◌<◌, ◌≤◌, ◌==◌, Bool, true, false, ◌&&◌, ◌||◌}
+use Rattle.dp_semantics.proofs.Names.{if◌then◌else◌, List, [], ◌∷◌, ◌++◌, drop-append_seam, ℤ, length, map, Option, Some, None, Ok, Err, list_all, list_any}
+use Rattle.dp_semantics.proofs.Names.{list_all-append, flat_map-append, and_parts, and_from, eq-eqb, eqb-true, ne_eqb, nat_le, cases_Bool, cases_eq, or-true}
+use Rattle.dp_semantics.proofs.Names.{slice_set, Stmt, out-Stmt, Stmt-F, Program, Plan, Word, Load, Event, Evaluated, evaluated, WithLoads, Effect, Stored}
+use Rattle.dp_semantics.proofs.Names.{Printed, Decided, Tried, site_of, value_of, stored, followed, stage_of, is_checked, cell_count, load_words, load_word}
+use Rattle.dp_semantics.proofs.Names.{done_word, words_of, event_as_assumed, Access, accesses, region_accesses, is_cell_of, well_nested}
 use Rattle.dp_semantics.proofs.Each.{Each, each_map, each_both, each_split}
 use Rattle.dp_semantics.proofs.Evaluation.{InVar, Form, Readable, head_loads, head_stores, evaluated_tracks}
 use Rattle.dp_semantics.proofs.Heads.{accesses_all, accesses_out, head_access, all_well, well_at, well_out}
@@ -7,7 +12,7 @@ use Rattle.dp_semantics.proofs.Setting.{Sound, Listed}
 use Rattle.dp_semantics.proofs.Followed.{followed_has, all_joins}
 use Rattle.dp_semantics.proofs.Ways.{event_of}
 use Rattle.dp_theorem.proofs.Source.{well_parts, each_joins, each_parts, head_fact}
-use Rattle.dp_net.specs.Quiet.{Outcome, Through, Broke, with_event, quiet_by}
+use Rattle.dp_net.specs.Quiet.{BlockOutcome, Through, Broke, with_event, quiet_by}
 unfoldable use Rattle.dp_net.specs.Quiet.{quiet_from}
 use Rattle.dp_net.specs.NetItems.{Marks, Item, net_of, net_behind, told_after, put, stores_into, said_all}
 unfoldable use Rattle.dp_net.specs.NetRun.{net_from}
@@ -71,7 +76,8 @@ module _ (p : Program) (plan : Plan) where
     module _ (input : List ℤ) (s : ℕ) where
       -- the effects of these statements, whose sites are listed
       pub effects_ok : (n : ℕ) (to_do : List Stmt) (cells : List ℤ) (events : List Event) (after : List ℤ) → all_well p plan to_do ≡ true →
-          Each (λ a. Sound p plan a × Listed all a) (accesses_all to_do) → quiet_from p input n to_do cells ≡ Through events after → Each StoreOk (effects_of events)
+          Each (λ a. Sound p plan a × Listed all a) (accesses_all to_do) → quiet_from p input n to_do cells ≡ Through events after →
+          Each StoreOk (effects_of events)
       unfolding quiet_from
       effects_ok zero [] cells events after well sites e = let same : [] ≡ events = cc e in subst (λ (es : List Event). Each StoreOk (effects_of es)) same tt
       effects_ok zero (x ∷ rest) cells events after well sites e = absurd (cc e)
@@ -85,22 +91,27 @@ module _ (p : Program) (plan : Plan) where
           let here = subst (λ (l : List Access). Each Q l) (accesses_out x) both.0 in
           let own = head_fact Q p plan h head_well here in
           by h own (evaluated p input cells h) refl (quiet_from p input n)
-          (λ v. followed_has (λ (xs : List Stmt). all_well p plan xs ≡ true) (all_joins (well_nested p plan)) x rest h (value_of v.value) well parts.1 (well_parts p plan h head_well))
+          (λ v. followed_has (λ (xs : List Stmt). all_well p plan xs ≡ true) (all_joins (well_nested p plan)) x rest h (value_of v.value) well parts.1
+          (well_parts p plan h head_well))
           (λ v. followed_has (λ (xs : List Stmt). Each Q (accesses_all xs)) (each_joins Q) x rest h (value_of v.value) sites both.1 (each_parts Q h here))
           (λ xs mem es last w ss q. effects_ok n xs mem es last w ss q) e
         where
-          by : (h : Stmt-F Stmt) → Sound p plan (head_access h) × Listed all (head_access h) → (u : Evaluated Effect) → evaluated p input cells h ≡ u → (go : List Stmt → List ℤ → Outcome) →
+          by : (h : Stmt-F Stmt) → Sound p plan (head_access h) × Listed all (head_access h) → (u : Evaluated Effect) → evaluated p input cells h ≡ u →
+              (go : List Stmt → List ℤ → BlockOutcome) →
               ((v : WithLoads Effect) → all_well p plan (followed x rest h (value_of v.value)) ≡ true) →
               ((v : WithLoads Effect) → Each (λ a. Sound p plan a × Listed all a) (accesses_all (followed x rest h (value_of v.value)))) →
-              ((xs : List Stmt) (mem : List ℤ) (es : List Event) (last : List ℤ) → all_well p plan xs ≡ true → Each (λ a. Sound p plan a × Listed all a) (accesses_all xs) → go xs mem ≡ Through es last → Each StoreOk (effects_of es)) →
+              ((xs : List Stmt) (mem : List ℤ) (es : List Event) (last : List ℤ) → all_well p plan xs ≡ true →
+              Each (λ a. Sound p plan a × Listed all a) (accesses_all xs) → go xs mem ≡ Through es last → Each StoreOk (effects_of es)) →
               quiet_by go x rest cells h u ≡ Through events after → Each StoreOk (effects_of events)
           by h own (Err kind) gave go w ss k e = absurd (cc e)
           by h own (Ok v) gave go w ss k e = later (go (followed x rest h (value_of v.value)) (stored v.value cells)) refl e
             where
               form : Form p h v.value
-              form = (evaluated_tracks p input cells cells (λ l. Unit {0}) h own.0.room (each_map (λ y. 0 < cell_count p (record { 0 = y })) (Readable p cells (λ l. Unit {0})) (λ y g. (g, λ c i. tt)) (head_loads h) own.0.reads) v gave).value
+              form = (evaluated_tracks p input cells cells (λ l. Unit {0}) h own.0.room (each_map (λ y. 0 < cell_count p (record { 0 = y }))
+                  (Readable p cells (λ l. Unit {0})) (λ y g. (g, λ c i. tt)) (head_loads h) own.0.reads) v gave).value
 
-              later : (o : Outcome) → go (followed x rest h (value_of v.value)) (stored v.value cells) ≡ o → with_event (event_of h v) o ≡ Through events after → Each StoreOk (effects_of events)
+              later : (o : BlockOutcome) → go (followed x rest h (value_of v.value)) (stored v.value cells) ≡ o →
+                  with_event (event_of h v) o ≡ Through events after → Each StoreOk (effects_of events)
               later Broke is e = absurd (cc e)
               later (Through es last) is e =
                   let same : event_of h v ∷ es ≡ events = cc e in
@@ -118,17 +129,20 @@ module _ (p : Program) (plan : Plan) where
       each_map _ _ (λ z q. ap (λ (b : Bool). (y == z) || b) q ∙ or-true (y == z)) loads (members loads),
     )
 
-    cell_among : (y c : ℕ) (loads : List ℕ) → list_any (λ z. z == y) loads ≡ true → is_cell_of p (record { 0 = y }) c ≡ true → is_cell_among p plan loads c ≡ true
+    cell_among : (y c : ℕ) (loads : List ℕ) → list_any (λ z. z == y) loads ≡ true → is_cell_of p (record { 0 = y }) c ≡ true →
+        is_cell_among p plan loads c ≡ true
     cell_among y c [] e i = absurd (cc e)
     cell_among y c (z ∷ loads) e i = elim (cases_Bool (z == y)) [
       | inl q ↦ ap (λ (b : Bool). b || is_cell_among p plan loads c) (ap (λ (n : ℕ). is_cell_of p (record { 0 = n }) c) (eqb-true z y q) ∙ i)
       | inr q ↦ ap (λ (b : Bool). is_cell_of p (record { 0 = z }) c || b) (cell_among y c loads (rw q at e) i) ∙ or-true (is_cell_of p (record { 0 = z }) c)
     ]
 
-    loads_of_text : (site : ℕ) (loads : List Load) → Each (λ (l : Load). list_any (loads_cell p plan (load_word site l)) (region_accesses p plan) ≡ true) loads →
+    loads_of_text : (site : ℕ) (loads : List Load) →
+        Each (λ (l : Load). list_any (loads_cell p plan (load_word site l)) (region_accesses p plan) ≡ true) loads →
         (rest : List Word) → AllOf (said_all rest) → AllOf (said_all (load_words site loads ++ rest))
     loads_of_text site [] k rest r = r
-    loads_of_text site (l ∷ loads) k rest r = and_from (list_any (loads_cell p plan (load_word site l)) (region_accesses p plan)) _ k.0 (loads_of_text site loads k.1 rest r)
+    loads_of_text site (l ∷ loads) k rest r =
+        and_from (list_any (loads_cell p plan (load_word site l)) (region_accesses p plan)) _ k.0 (loads_of_text site loads k.1 rest r)
 
     abbrev LoadOk : ℕ → Load → Type 0
     LoadOk site l = list_any (loads_cell p plan (load_word site l)) (region_accesses p plan) ≡ true
@@ -146,9 +160,12 @@ module _ (p : Program) (plan : Plan) where
             by : (b : Bool) → list_any (loads_cell p plan (load_word (site_of h).0 (record { cell = c; value = z }))) (region_accesses p plan) ≡ b → b ≡ true
             by true q = refl
             by false q = sym (sound.listed (loads_cell p plan (load_word (site_of h).0 (record { cell = c; value = z }))) q)
-                ∙ and_from ((site_of h).0 == (site_of h).0) (is_cell_among p plan (head_loads h) c) (eq-eqb (site_of h).0 (site_of h).0 refl) (cell_among y c (head_loads h) loaded (cell_of_var p plan y c i))
+                ∙ and_from ((site_of h).0 == (site_of h).0) (is_cell_among p plan (head_loads h) c) (eq-eqb (site_of h).0 (site_of h).0 refl)
+                (cell_among y c (head_loads h) loaded (cell_of_var p plan y c i))
 
         t : Rattle.dp_semantics.proofs.Evaluation.Tracked Effect (Form p h) (LoadOk (site_of h).0) cells v (evaluated p input cells h)
         t = evaluated_tracks p input cells cells (LoadOk (site_of h).0) h sound.room
-            (each_map (λ y. (0 < cell_count p (record { 0 = y })) × (list_any (λ z. z == y) (head_loads h) ≡ true)) (Readable p cells (LoadOk (site_of h).0)) (λ y k. (k.0, λ c i. one y k.1 c i (Rattle.dp_semantics.proofs.Names.get_or cells c (Rattle.dp_semantics.proofs.Names.pos 0)))) (head_loads h)
-            (each_both (λ y. 0 < cell_count p (record { 0 = y })) (λ y. list_any (λ z. z == y) (head_loads h) ≡ true) (head_loads h) sound.reads (members (head_loads h)))) v e
+            (each_map (λ y. (0 < cell_count p (record { 0 = y })) × (list_any (λ z. z == y) (head_loads h) ≡ true)) (Readable p cells (LoadOk (site_of h).0))
+            (λ y k. (k.0, λ c i. one y k.1 c i (Rattle.dp_semantics.proofs.Names.get_or cells c (Rattle.dp_semantics.proofs.Names.pos 0)))) (head_loads h)
+            (each_both (λ y. 0 < cell_count p (record { 0 = y })) (λ y. list_any (λ z. z == y) (head_loads h) ≡ true) (head_loads h) sound.reads
+            (members (head_loads h)))) v e

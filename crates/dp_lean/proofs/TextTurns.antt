@@ -1,12 +1,16 @@
 -- What a turn tells is of the text, and so are the lists of each packet.
-use Rattle.dp_semantics.proofs.Names.{◌≡◌, inl, inr, refl, sym, ap, ◌∙◌, subst, arith, ℕ, zero, suc, ◌+◌, ◌-◌, ◌<◌, ◌≤◌, ◌==◌, Bool, true, false, ◌&&◌, ◌||◌, if◌then◌else◌, List, [], ◌∷◌, ◌++◌, drop-append_seam, ℤ, length, map, Option, Some, None, Ok, Err, list_all, list_all-append, flat_map-append, flat_map, and_parts, and_from, eq-eqb, ne_eqb, nat_le, cases_Bool, cases_eq, slice_get, sum_by, Stmt, out-Stmt, Stmt-F, Program, Plan, Event, Evaluated, evaluated, Effect, site_of, value_of, stored, followed, stage_of, event_as_assumed, words_of, project_all, region_statement, Access, accesses, well_nested, Epoch}
+use Rattle.dp_semantics.proofs.Names.{◌≡◌, inl, inr, refl, sym, ap, ◌∙◌, subst, arith, ℕ, zero, suc, ◌+◌, ◌-◌, ◌<◌, ◌≤◌, ◌==◌, Bool, true, false, ◌&&◌, ◌||◌}
+use Rattle.dp_semantics.proofs.Names.{if◌then◌else◌, List, [], ◌∷◌, ◌++◌, drop-append_seam, ℤ, length, map, Option, Some, None, Ok, Err, list_all}
+use Rattle.dp_semantics.proofs.Names.{list_all-append, flat_map-append, flat_map, and_parts, and_from, eq-eqb, ne_eqb, nat_le, cases_Bool, cases_eq, slice_get}
+use Rattle.dp_semantics.proofs.Names.{sum_by, Stmt, out-Stmt, Stmt-F, Program, Plan, Event, Evaluated, evaluated, Effect, site_of, value_of, stored, followed}
+use Rattle.dp_semantics.proofs.Names.{stage_of, event_as_assumed, words_of, project_all, region_statement, Access, accesses, well_nested, Epoch}
 use Rattle.dp_semantics.proofs.Each.{Each, each_both, each_map, each_split}
 use Rattle.dp_semantics.proofs.Heads.{accesses_all, accesses_at, accesses_out, all_well, well_at, well_out}
 use Rattle.dp_semantics.proofs.Setting.{Sound, Listed, listed_all, Accepted}
 use Rattle.dp_semantics.proofs.Followed.{followed_has, all_joins}
 use Rattle.dp_semantics.proofs.Ways.{event_of}
 use Rattle.dp_theorem.proofs.Source.{well_parts, each_joins, each_parts, head_fact}
-use Rattle.dp_net.specs.Quiet.{Outcome, Through, Broke}
+use Rattle.dp_net.specs.Quiet.{BlockOutcome, Through, Broke}
 unfoldable use Rattle.dp_net.specs.Quiet.{quiet_from}
 use Rattle.dp_net.specs.NetItems.{Marks, Item, Net, net_of, said_all, weights, NetTaken, net_taken_from, item_list}
 use Rattle.dp_net.specs.NetRun.{NetTurn, NetEnded, net_turned, net_own_step, net_consumed_step, net_by, net_step, block_step, net_made, net_met, net_run}
@@ -31,10 +35,12 @@ module _ (p : Program) (plan : Plan) (m : Marks) (input : List ℤ) (marked : Ma
   join_of a b h k = list_all-append (is_of_text p plan m) a b ∙ and_from (list_all (is_of_text p plan m) a) (list_all (is_of_text p plan m) b) h k
 
   abbrev Tells : ℕ → Type 0
-  Tells n = (xs : List Stmt) → Spoken xs → (cells : List ℤ) (lists : List (List Item)) (own : List Item) (closing : Bool) (e : NetEnded) → AllOf p plan m input own →
+  Tells n = (xs : List Stmt) → Spoken xs → (cells : List ℤ) (lists : List (List Item)) (own : List Item) (closing : Bool) (e : NetEnded) →
+      AllOf p plan m input own →
       net_from p plan m input s n (record { to_do = xs; cells = cells; lists = lists; own = own; closing = closing }) ≡ Some e → AllOf p plan m input e.own
 
-  module _ (n : ℕ) (go : Tells n) (x : Stmt) (cells : List ℤ) (lists : List (List Item)) (own : List Item) (closing : Bool) (e : NetEnded) (all : AllOf p plan m input own) where
+  module _ (n : ℕ) (go : Tells n) (x : Stmt) (cells : List ℤ) (lists : List (List Item)) (own : List Item) (closing : Bool) (e : NetEnded)
+      (all : AllOf p plan m input own) where
     abbrev h : Stmt-F Stmt
     h = out-Stmt x
 
@@ -62,8 +68,10 @@ module _ (p : Program) (plan : Plan) (m : Marks) (input : List ℤ) (marked : Ma
 
       next : (z : ℤ) → Spoken (followed x rest h z)
       next z = record {
-        well = followed_has (λ (xs : List Stmt). all_well p plan xs ≡ true) (all_joins (well_nested p plan)) x rest h z r.well parts.1 (well_parts p plan h well);
-        sites = followed_has (AllKept p plan s (Sound p plan)) (each_joins (Kept p plan s (Sound p plan))) x rest h z r.sites sites.1 (each_parts (Kept p plan s (Sound p plan)) h sites.0);
+        well = followed_has (λ (xs : List Stmt). all_well p plan xs ≡ true) (all_joins (well_nested p plan)) x rest h z r.well parts.1
+            (well_parts p plan h well);
+        sites = followed_has (AllKept p plan s (Sound p plan)) (each_joins (Kept p plan s (Sound p plan))) x rest h z r.sites sites.1
+            (each_parts (Kept p plan s (Sound p plan)) h sites.0);
         text = texts z;
       }
 
@@ -71,9 +79,11 @@ module _ (p : Program) (plan : Plan) (m : Marks) (input : List ℤ) (marked : Ma
       own_tells (Err kind) gave q = absurd (cc q)
       own_tells (Ok v) gave q = by (event_as_assumed p plan (event_of h v) && nat_le (weights own + length (words_of p plan (event_of h v))) plan.words) q
         where
-          by : (b : Bool) → Onward (if b then Some (net_turned p plan (turn (x ∷ rest)) x rest h v.value (own ++ said_all (words_of p plan (event_of h v))) lists) else None)
+          by : (b : Bool) → Onward
+              (if b then Some (net_turned p plan (turn (x ∷ rest)) x rest h v.value (own ++ said_all (words_of p plan (event_of h v))) lists) else None)
           by true q = go _ (next (value_of v.value)) _ lists (own ++ said_all (words_of p plan (event_of h v))) _ e
-              (join_of own (said_all (words_of p plan (event_of h v))) all (words_of_text p plan m input h (head_fact (Kept p plan s (Sound p plan)) p plan h well sites.0).0 cells v gave)) q
+              (join_of own (said_all (words_of p plan (event_of h v))) all
+              (words_of_text p plan m input h (head_fact (Kept p plan s (Sound p plan)) p plan h well sites.0).0 cells v gave)) q
           by false q = absurd (cc q)
 
       taken_tells : (o : Option NetTaken) → Onward (net_consumed_step p plan (turn (x ∷ rest)) x rest h o)
@@ -91,24 +101,28 @@ module _ (p : Program) (plan : Plan) (m : Marks) (input : List ℤ) (marked : Ma
       behind : Spoken more
       behind = record {
         well = (and_parts (all_well p plan (x ∷ b)) (all_well p plan more) (sym (list_all-append (well_nested p plan) (x ∷ b) more) ∙ r.well)).1;
-        sites = (each_split (Kept p plan s (Sound p plan)) (accesses_all (x ∷ b)) (accesses_all more) (subst (λ (l : List Access). Each (Kept p plan s (Sound p plan)) l) (flat_map-append accesses (x ∷ b) more) r.sites)).1;
+        sites = (each_split (Kept p plan s (Sound p plan)) (accesses_all (x ∷ b)) (accesses_all more)
+            (subst (λ (l : List Access). Each (Kept p plan s (Sound p plan)) l) (flat_map-append accesses (x ∷ b) more) r.sites)).1;
         text = text;
       }
 
       listed : Each (λ a. Sound p plan a × Listed (accesses_all (x ∷ b)) a) (accesses_all (x ∷ b))
       listed = each_both (Sound p plan) (Listed (accesses_all (x ∷ b))) (accesses_all (x ∷ b))
           (each_map (Kept p plan s (Sound p plan)) (Sound p plan) (λ a k. k.0) (accesses_all (x ∷ b))
-          (each_split (Kept p plan s (Sound p plan)) (accesses_all (x ∷ b)) (accesses_all more) (subst (λ (l : List Access). Each (Kept p plan s (Sound p plan)) l) (flat_map-append accesses (x ∷ b) more) r.sites)).0)
+          (each_split (Kept p plan s (Sound p plan)) (accesses_all (x ∷ b)) (accesses_all more)
+          (subst (λ (l : List Access). Each (Kept p plan s (Sound p plan)) l) (flat_map-append accesses (x ∷ b) more) r.sites)).0)
           (listed_all (accesses_all (x ∷ b)))
 
       item_of : (events : List Event) (after : List ℤ) → quiet_from p input (plan.words - weights own) (x ∷ b) cells ≡ Through events after →
           is_of_text p plan m (Net (site_at x) (length events) (net_of (m.hides u) (effects_of events))) ≡ true
-      item_of events after gave = ap (λ (block : List Stmt). list_all (stores_among p plan (flat_map accesses block)) (net_of (m.hides u) (effects_of events))) at
+      item_of events after gave =
+          ap (λ (block : List Stmt). list_all (stores_among p plan (flat_map accesses block)) (net_of (m.hides u) (effects_of events))) at
           ∙ net_among p plan (accesses_all (x ∷ b)) (m.hides u) (effects_of events)
           (effects_ok p plan (accesses_all (x ∷ b)) input s (plan.words - weights own) (x ∷ b) cells events after
           (and_parts (all_well p plan (x ∷ b)) (all_well p plan more) (sym (list_all-append (well_nested p plan) (x ∷ b) more) ∙ r.well)).0 listed gave)
 
-      made_tells : (o : Outcome) → quiet_from p input (plan.words - weights own) (x ∷ b) cells ≡ o → Onward (net_made p plan m (site_at x) (turn (x ∷ (b ++ more))) more o)
+      made_tells : (o : BlockOutcome) → quiet_from p input (plan.words - weights own) (x ∷ b) cells ≡ o →
+          Onward (net_made p plan m (site_at x) (turn (x ∷ (b ++ more))) more o)
       made_tells Broke gave q = absurd (cc q)
       made_tells (Through events after) gave q = go more behind after lists _ closing e (join_of own _ all (and_from _ true (item_of events after gave) refl)) q
 
@@ -117,7 +131,9 @@ module _ (p : Program) (plan : Plan) (m : Marks) (input : List ℤ) (marked : Ma
       met_tells (Rattle.dp_net.specs.NetItems.Said w ∷ is) q = absurd (cc q)
       met_tells (Net f count stores ∷ is) q = by ((f == site_at x) && Rattle.dp_semantics.proofs.Names.nat_lt 0 count) q
         where
-          by : (c : Bool) → Onward (if c then Some (Rattle.dp_net.specs.NetRun.net_past p plan (turn (x ∷ (b ++ more))) more (Rattle.dp_semantics.proofs.Names.applied stores cells) (Rattle.dp_semantics.proofs.Names.slice_set lists (stage_of p plan (site_at x) - 1) is) own) else None)
+          by : (c : Bool) → Onward
+              (if c then Some (Rattle.dp_net.specs.NetRun.net_past p plan (turn (x ∷ (b ++ more))) more (Rattle.dp_semantics.proofs.Names.applied stores cells)
+              (Rattle.dp_semantics.proofs.Names.slice_set lists (stage_of p plan (site_at x) - 1) is) own) else None)
           by true q = go more behind _ _ own closing e all q
           by false q = absurd (cc q)
 
@@ -132,11 +148,14 @@ module _ (p : Program) (plan : Plan) (m : Marks) (input : List ℤ) (marked : Ma
   unfolding net_from
   tells zero xs r cells lists own closing e all q = absurd (cc q)
   tells (suc n) [] r cells lists own closing e all q =
-      let same : record { own = own; cells = cells; closing = closing } ≡ e = cc q in ap (λ (f : NetEnded). list_all (is_of_text p plan m) f.own) (sym same) ∙ all
+      let same : record { own = own; cells = cells; closing = closing } ≡ e = cc q in
+      ap (λ (f : NetEnded). list_all (is_of_text p plan m) f.own) (sym same) ∙ all
   tells (suc n) (x ∷ rest) r cells lists own closing e all q = elim (headed m p plan input marked x rest r.text) [
     | alone plain texts ↦ site_tells n (tells n) x cells lists own closing e all rest r plain texts q
     | joined b behind at is text ↦
-        subst (λ (ys : List Stmt). Spoken (x ∷ ys) → net_from p plan m input s (suc n) (record { to_do = x ∷ ys; cells = cells; lists = lists; own = own; closing = closing }) ≡ Some e → AllOf p plan m input e.own) (sym is)
+        subst (λ (ys : List Stmt). Spoken (x ∷ ys) →
+        net_from p plan m input s (suc n) (record { to_do = x ∷ ys; cells = cells; lists = lists; own = own; closing = closing }) ≡ Some e →
+        AllOf p plan m input e.own) (sym is)
         (λ r q. block_tells n (tells n) x cells lists own closing e all b behind at r text q) r q
   ]
 
@@ -145,7 +164,8 @@ module _ {k : Epoch} {m : Marks} {test : Stmt → Bool} (q : Quieted k m test) (
 
   turn_of_text : (t : ℕ) (before : List ℤ) (lists : List (List Item)) (e : NetEnded) → net_run program plan m input (suc t) before lists ≡ Some e →
       list_all (is_of_text program plan m) e.own ≡ true
-  turn_of_text t before lists e r = tells program plan m input q.marked (suc t) (plan.words + sum_by weights lists + 1) (project_all program plan (suc t) (region_statement program plan))
+  turn_of_text t before lists e r =
+      tells program plan m input q.marked (suc t) (plan.words + sum_by weights lists + 1) (project_all program plan (suc t) (region_statement program plan))
       (record { well = text_well ok (suc t) (omega arith); sites = text_sites ok (suc t) (omega arith); text = q.texts (suc t) }) before lists [] false e refl r
 
   passed_of_text : (t : ℕ) (before : List ℤ) (came : NetPacket) → are_of_text program plan m came.lists ≡ true →
@@ -158,9 +178,11 @@ module _ {k : Epoch} {m : Marks} {test : Stmt → Bool} (q : Quieted k m test) (
       by NetGoing None e = all
       by NetClosing None e = all
       by NetGoing (Some f) e = list_all-append (list_all (is_of_text program plan m)) came.lists (f.own ∷ [])
-          ∙ and_from (are_of_text program plan m came.lists) _ all (and_from (list_all (is_of_text program plan m) f.own) true (turn_of_text t before came.lists f e) refl)
+          ∙ and_from (are_of_text program plan m came.lists) _ all (and_from (list_all (is_of_text program plan m) f.own) true
+          (turn_of_text t before came.lists f e) refl)
       by NetClosing (Some f) e = list_all-append (list_all (is_of_text program plan m)) came.lists (f.own ∷ [])
-          ∙ and_from (are_of_text program plan m came.lists) _ all (and_from (list_all (is_of_text program plan m) f.own) true (turn_of_text t before came.lists f e) refl)
+          ∙ and_from (are_of_text program plan m came.lists) _ all (and_from (list_all (is_of_text program plan m) f.own) true
+          (turn_of_text t before came.lists f e) refl)
 
   -- The lists of each packet are of the text.
   pub packets_of_text : (s n : ℕ) → are_of_text program plan m (net_passed m k s n).packet.lists ≡ true

@@ -1,5 +1,7 @@
 -- What a reader of a text finds at its head, where the lists that came follow the text of the stage before.
-use Rattle.dp_semantics.proofs.Names.{◌≡◌, inl, inr, refl, sym, ◌∙◌, subst, arith, ℕ, zero, suc, ◌<◌, ◌≤◌, Bool, true, List, [], ◌∷◌, ◌++◌, ℤ, list_all, list_all-append, flat_map-append, and_parts, cases_eq, Stmt, out-Stmt, Stmt-F, Program, Plan, Event, Effect, site_of, value_of, followed, stage_of, event_as_assumed, project_all, Access, accesses, well_nested}
+use Rattle.dp_semantics.proofs.Names.{◌≡◌, inl, inr, refl, sym, ◌∙◌, subst, arith, ℕ, zero, suc, ◌<◌, ◌≤◌, Bool, true, List, [], ◌∷◌, ◌++◌, ℤ, list_all}
+use Rattle.dp_semantics.proofs.Names.{list_all-append, flat_map-append, and_parts, cases_eq, Stmt, out-Stmt, Stmt-F, Program, Plan, Event, Effect, site_of}
+use Rattle.dp_semantics.proofs.Names.{value_of, followed, stage_of, event_as_assumed, project_all, Access, accesses, well_nested}
 use Rattle.dp_semantics.proofs.Each.{Each, each_split}
 use Rattle.dp_semantics.proofs.Evaluation.{Form}
 use Rattle.dp_semantics.proofs.Heads.{accesses_all, accesses_at, accesses_out, head_access, all_well, well_at, well_out}
@@ -7,7 +9,7 @@ use Rattle.dp_semantics.proofs.Setting.{Sound}
 use Rattle.dp_semantics.proofs.Followed.{followed_has, all_joins}
 use Rattle.dp_theorem.proofs.Source.{well_parts, each_joins, each_parts, head_fact}
 use Rattle.dp_net.specs.NetItems.{Marks, Item, Net, is_store}
-use Rattle.dp_net.specs.Follows.{Says, Others, Follows}
+use Rattle.dp_net.specs.Follows.{Says, Others, FollowsText}
 use Rattle.dp_net.proofs.Groups.{Marked}
 use Rattle.dp_net.proofs.Projections.{Kept, AllKept}
 use Rattle.dp_net.proofs.Reading.{follows_same, read_site, read_past, read_block, read_past_block, read_end}
@@ -25,7 +27,7 @@ module _ (p : Program) (plan : Plan) (m : Marks) (input : List ℤ) (marked : Ma
   came_part (suc n) xs = project_all p plan (suc n) xs
 
   abbrev pub Brings : List Stmt → (ℕ → List Item) → Type 0
-  Brings xs left = Follows p plan m (came_part t xs) left
+  Brings xs left = FollowsText p plan m (came_part t xs) left
 
   module _ (read : ℕ → Bool) where
     pub record Walkable (xs : List Stmt) : Type 0 where
@@ -37,7 +39,7 @@ module _ (p : Program) (plan : Plan) (m : Marks) (input : List ℤ) (marked : Ma
     pub ended : (left : ℕ → List Item) → Brings [] left → (y : ℕ) → left y ≡ []
     ended left came y = by t came
       where
-        by : (n : ℕ) → Follows p plan m (came_part n []) left → left y ≡ []
+        by : (n : ℕ) → FollowsText p plan m (came_part n []) left → left y ≡ []
         by zero f = read_end p plan m zero f y
         by (suc n) f = read_end p plan m (suc n) f y
 
@@ -68,7 +70,8 @@ module _ (p : Program) (plan : Plan) (m : Marks) (input : List ℤ) (marked : Ma
       -- a step further
       pub next : (z : ℤ) → Left p plan m stage read (followed x rest h z) → Walkable (followed x rest h z)
       next z left = record {
-        well = followed_has (λ (xs : List Stmt). all_well p plan xs ≡ true) (all_joins (well_nested p plan)) x rest h z r.well parts.1 (well_parts p plan h head_well);
+        well = followed_has (λ (xs : List Stmt). all_well p plan xs ≡ true) (all_joins (well_nested p plan)) x rest h z r.well parts.1
+            (well_parts p plan h head_well);
         sites = followed_has (AllKept p plan stage (Sound p plan)) (each_joins (Kept p plan stage (Sound p plan))) x rest h z r.sites split.1
             (each_parts (Kept p plan stage (Sound p plan)) h split.0);
         left = left;
@@ -79,7 +82,8 @@ module _ (p : Program) (plan : Plan) (m : Marks) (input : List ℤ) (marked : Ma
           event_as_assumed p plan (record { site = (site_of h).0; loads = []; effect = effect }) ≡ true → Brings (followed x rest h (value_of effect)) left
       own_past here left came effect form assumed = by t refl came
         where
-          by : (n : ℕ) → t ≡ n → Follows p plan m (came_part n (x ∷ rest)) left → Follows p plan m (came_part n (followed x rest h (value_of effect))) left
+          by : (n : ℕ) → t ≡ n → FollowsText p plan m (came_part n (x ∷ rest)) left →
+              FollowsText p plan m (came_part n (followed x rest h (value_of effect))) left
           by zero is f = f
           by (suc n) is f = read_past p plan m (suc n) x rest head_well parts.1 (omega arith) (omega (arith, here, is)) effect form assumed f
 
@@ -94,7 +98,7 @@ module _ (p : Program) (plan : Plan) (m : Marks) (input : List ℤ) (marked : Ma
       pub reads : m.block_at (site_at x) ≡ [] → (u ≡ stage → ⊥) → (left : ℕ → List Item) → Brings (x ∷ rest) left → Reads left
       reads none other left came = by t refl came
         where
-          by : (n : ℕ) → t ≡ n → Follows p plan m (came_part n (x ∷ rest)) left → Reads left
+          by : (n : ℕ) → t ≡ n → FollowsText p plan m (came_part n (x ∷ rest)) left → Reads left
           by zero is f = let reach = own_site.1 in let real = low in absurd (other (omega (arith, reach, real, is)))
           by (suc n) is f =
               let found = read_site p plan m (suc n) x rest head_well parts.1 (reach_of own_site.1) none f in
@@ -103,7 +107,8 @@ module _ (p : Program) (plan : Plan) (m : Marks) (input : List ℤ) (marked : Ma
                 next_left = found.next;
                 says = found.says;
                 others = found.others;
-                later = λ o same. subst (λ (k : ℕ). Follows p plan m (came_part k (followed x rest h (value_of found.event.effect))) o) (sym is) (follows_same p plan m found.later o same);
+                later = λ o same. subst (λ (k : ℕ). FollowsText p plan m (came_part k (followed x rest h (value_of found.event.effect))) o) (sym is)
+                    (follows_same p plan m found.later o same);
               }
             where
               reach_of : u ≤ stage → u ≤ suc n
@@ -138,7 +143,7 @@ module _ (p : Program) (plan : Plan) (m : Marks) (input : List ℤ) (marked : Ma
       pub block_past : v ≡ stage → (left : ℕ → List Item) → Brings (x ∷ (b ++ more)) left → Brings more left
       block_past here left came = by t refl came
         where
-          by : (n : ℕ) → t ≡ n → Follows p plan m (came_part n (x ∷ (b ++ more))) left → Follows p plan m (came_part n more) left
+          by : (n : ℕ) → t ≡ n → FollowsText p plan m (came_part n (x ∷ (b ++ more))) left → FollowsText p plan m (came_part n more) left
           by zero is f = f
           by (suc n) is f = read_past_block p plan m (suc n) v x b more at quiet (omega (arith, here, is)) f
 
@@ -155,7 +160,7 @@ module _ (p : Program) (plan : Plan) (m : Marks) (input : List ℤ) (marked : Ma
       pub reads_block : (v ≡ stage → ⊥) → (left : ℕ → List Item) → Brings (x ∷ (b ++ more)) left → ReadsBlock left
       reads_block other left came = by t refl came
         where
-          by : (n : ℕ) → t ≡ n → Follows p plan m (came_part n (x ∷ (b ++ more))) left → ReadsBlock left
+          by : (n : ℕ) → t ≡ n → FollowsText p plan m (came_part n (x ∷ (b ++ more))) left → ReadsBlock left
           by zero is f = let reach = (own_site x (b ++ more) r).1 in let real = block_low in absurd (other (omega (arith, reach, real, is)))
           by (suc n) is f =
               let found = read_block p plan m (suc n) v x b more at quiet (reach_of (own_site x (b ++ more) r).1) f in
@@ -167,7 +172,7 @@ module _ (p : Program) (plan : Plan) (m : Marks) (input : List ℤ) (marked : Ma
                 all = found.all;
                 front = found.front;
                 others = found.others;
-                later = λ o same. subst (λ (k : ℕ). Follows p plan m (came_part k more) o) (sym is) (follows_same p plan m found.later o same);
+                later = λ o same. subst (λ (k : ℕ). FollowsText p plan m (came_part k more) o) (sym is) (follows_same p plan m found.later o same);
               }
             where
               reach_of : v ≤ stage → v ≤ suc n

@@ -1,5 +1,10 @@
 -- Memories that agree on what a stage wants: what stores make of them, and what evaluations give in them.
-use Rattle.dp_semantics.proofs.Names.{◌≡◌, inl, inr, refl, sym, ap, ◌∙◌, subst, arith, ℕ, zero, suc, ◌+◌, ◌<◌, ◌≤◌, ◌==◌, Bool, true, false, not, ◌&&◌, ◌||◌, if◌then◌else◌, List, [], ◌∷◌, ◌++◌, ℤ, pos, length, Option, Some, None, Ok, Err, unwrap_or, get_or, get_or_past, eq-eqb, eqb-true, ne_eqb, leb-true, ltb-true, le-leb, lt-ltb, nat_le, nat_lt, and_parts, and_from, or_parts, cases_Bool, cases_eq, cases_lt, list_any, list_all, or-true, flat_map, FaultKind, Stmt, out-Stmt, Stmt-F, Program, Plan, Event, Evaluated, evaluated, WithLoads, Effect, Stored, Printed, Decided, Tried, site_of, value_of, stored, applied, followed, stage_of, is_checked, is_replicated, first_cell, cell_count, Access, accesses, region_accesses, is_cell_of}
+use Rattle.dp_semantics.proofs.Names.{◌≡◌, inl, inr, refl, sym, ap, ◌∙◌, subst, arith, ℕ, zero, suc, ◌+◌, ◌<◌, ◌≤◌, ◌==◌, Bool, true, false, not, ◌&&◌, ◌||◌}
+use Rattle.dp_semantics.proofs.Names.{if◌then◌else◌, List, [], ◌∷◌, ◌++◌, ℤ, pos, length, Option, Some, None, Ok, Err, unwrap_or, get_or, get_or_past, eq-eqb}
+use Rattle.dp_semantics.proofs.Names.{eqb-true, ne_eqb, leb-true, ltb-true, le-leb, lt-ltb, nat_le, nat_lt, and_parts, and_from, or_parts, cases_Bool, cases_eq}
+use Rattle.dp_semantics.proofs.Names.{cases_lt, list_any, list_all, or-true, flat_map, FaultKind, Stmt, out-Stmt, Stmt-F, Program, Plan, Event, Evaluated}
+use Rattle.dp_semantics.proofs.Names.{evaluated, WithLoads, Effect, Stored, Printed, Decided, Tried, site_of, value_of, stored, applied, followed, stage_of}
+use Rattle.dp_semantics.proofs.Names.{is_checked, is_replicated, first_cell, cell_count, Access, accesses, region_accesses, is_cell_of}
 use Rattle.std.specs.Option.{option_or}
 use Rattle.dp_semantics.proofs.Each.{Each, each_map, each_both}
 use Rattle.dp_semantics.proofs.Evaluation.{InVar, IsHeld, Form, Readable, head_loads, head_stores, evaluated_tracks}
@@ -19,7 +24,8 @@ module _ (p : Program) (plan : Plan) where
       (leb-true (first_cell p (record { 0 = x })) c both.0, ltb-true c _ both.1)
 
   pub cell_of_var : (x c : ℕ) → InVar p x c → is_cell_of p (record { 0 = x }) c ≡ true
-  cell_of_var x c i = and_from (nat_le (first_cell p (record { 0 = x })) c) (nat_lt c (first_cell p (record { 0 = x }) + cell_count p (record { 0 = x }))) (le-leb (first_cell p (record { 0 = x })) c i.0) (lt-ltb c _ i.1)
+  cell_of_var x c i = and_from (nat_le (first_cell p (record { 0 = x })) c) (nat_lt c (first_cell p (record { 0 = x }) + cell_count p (record { 0 = x })))
+      (le-leb (first_cell p (record { 0 = x })) c i.0) (lt-ltb c _ i.1)
 
   module _ (s : ℕ) where
     -- the effects store into no cell that the stage wants
@@ -83,7 +89,8 @@ module _ (p : Program) (plan : Plan) where
           by h (Tried z) f u = refl
 
       -- the variable of a store among these sites
-      pub among : (all : List Access) (d : ℕ) → list_any (stores_cell p plan d) all ≡ true → list_any (λ (a : Access). does_store p plan s a.stores) all ≡ false →
+      pub among : (all : List Access) (d : ℕ) → list_any (stores_cell p plan d) all ≡ true →
+          list_any (λ (a : Access). does_store p plan s a.stores) all ≡ false →
           (y : ℕ) × InVar p y d × (is_done_to p plan s y ≡ false)
       among [] d e u = absurd (cc e)
       among (a ∷ all) d e u = elim (cases_Bool (stores_cell p plan d a)) [
@@ -118,15 +125,18 @@ module _ (p : Program) (plan : Plan) where
       )
 
       -- what an own site loads is wanted
-      own_wanted : (a : Access) → Listed (region_accesses p plan) a → stage_of p plan a.site ≡ s → (y : ℕ) → list_any (λ z. z == y) a.loads ≡ true → wanted p plan s y ≡ true
-      own_wanted a listed here y loaded = ap (λ (b : Bool). if b then list_any (compares p plan y) (region_accesses p plan) else (is_loaded_in p plan s y || (is_replicated plan (suc s) && is_loaded_in p plan (suc s) y))) real
+      own_wanted : (a : Access) → Listed (region_accesses p plan) a → stage_of p plan a.site ≡ s → (y : ℕ) → list_any (λ z. z == y) a.loads ≡ true →
+          wanted p plan s y ≡ true
+      own_wanted a listed here y loaded = ap (λ (b : Bool). if b then list_any (compares p plan y) (region_accesses p plan)
+          else (is_loaded_in p plan s y || (is_replicated plan (suc s) && is_loaded_in p plan (suc s) y))) real
           ∙ ap (λ (b : Bool). b || (is_replicated plan (suc s) && is_loaded_in p plan (suc s) y)) (there (is_loaded_in p plan s y) refl)
         where
           there : (b : Bool) → is_loaded_in p plan s y ≡ b → b ≡ true
           there true q = refl
           there false q =
               let none : loads_in p plan s y a ≡ false = listed (loads_in p plan s y) q in
-              let some : loads_in p plan s y a ≡ true = and_from (stage_of p plan a.site == s) (loads_var p plan y a) (eq-eqb (stage_of p plan a.site) s here) loaded in
+              let some : loads_in p plan s y a ≡ true = and_from (stage_of p plan a.site == s) (loads_var p plan y a)
+              (eq-eqb (stage_of p plan a.site) s here) loaded in
               sym none ∙ some
 
       own_readable : (h : Stmt-F Stmt) → Sound p plan (head_access h) → stage_of p plan (site_of h).0 ≡ s → (a b : List ℤ) → AgreesOn p plan s a b →

@@ -1,5 +1,6 @@
 -- What items and lists of items weigh, after some are added or taken.
-use Rattle.dp_semantics.proofs.Names.{◌≡◌, inl, inr, refl, ap, ◌∙◌, arith, ℕ, zero, suc, ◌+◌, ◌-◌, ◌<◌, List, [], ◌∷◌, ◌++◌, length, sum_by, sum_by-cons, sum_by-set, slice_set, get_or, get_or_past, cases_lt, Program, Plan, Word}
+use Rattle.dp_semantics.proofs.Names.{◌≡◌, inl, inr, refl, ap, ◌∙◌, arith, ℕ, zero, suc, ◌+◌, ◌-◌, ◌<◌, List, [], ◌∷◌, ◌++◌, length, sum_by, sum_by-cons}
+use Rattle.dp_semantics.proofs.Names.{sum_by-set, slice_set, get_or, get_or_past, cases_lt, Program, Plan, Word}
 use Rattle.dp_net.specs.NetItems.{Marks, Item, Said, weight, weights, item_list, said_all}
 use Rattle.dp_net.proofs.Groups.{item_list_is}
 

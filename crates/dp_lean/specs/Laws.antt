@@ -19,7 +19,7 @@ use Rattle.dp_net.specs.NetItems.{Marks, Item, item_list}
 use Rattle.dp_net.specs.NetRun.{NetEnded, net_run}
 use Rattle.dp_net.specs.NetPackets.{NetPacket, net_passed}
 use Rattle.dp_net.specs.NetJudge.{NetAgreed, net_judge}
-use Rattle.dp_net.specs.Follows.{Follows, is_void}
+use Rattle.dp_net.specs.Follows.{FollowsText, is_void}
 use Rattle.dp_net.specs.Hidden.{marks_of}
 use Rattle.dp_lean.specs.Needed.{wanted}
 use Rattle.dp_lean.specs.LeanText.{lean_text}
@@ -43,7 +43,7 @@ module _ (p : Program) (plan : Plan) where
     -- The lists that come to stage s follow the text of the stage before, and load and store what the text does.
     pub record Came (s : ℕ) (lists : List (List Item)) : Type 0 where
       pub size : suc (length lists) ≡ s
-      pub follows : Follows p plan m (came_text s) (item_list lists)
+      pub follows : FollowsText p plan m (came_text s) (item_list lists)
       pub of_text : are_of_text p plan m lists ≡ true
 
     -- the site stands in the lean text

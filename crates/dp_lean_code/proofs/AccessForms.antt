@@ -54,17 +54,20 @@ pub loaded-Or : (a b : Expr) → loaded_list (expr.Or a b) ≡ loaded_list a ++ 
 unfolding loaded_list opened
 loaded-Or a b = refl
 
-pub ruleset loaded_forms = (append-nil, loaded-Number, loaded-InputLen, loaded-Scalar, loaded-Input, loaded-Element, loaded-Unary, loaded-Binary, loaded-And, loaded-Or)
+pub ruleset loaded_forms =
+    (append-nil, loaded-Number, loaded-InputLen, loaded-Scalar, loaded-Input, loaded-Element, loaded-Unary, loaded-Binary, loaded-And, loaded-Or)
 
 -- two parts that joined one after the other
 pub two_parts : {X : Type 0} (old one two a b : List X) → one ≡ old ++ a → two ≡ one ++ b → two ≡ old ++ (a ++ b)
 two_parts old one two a b e f = f ∙ ap (λ l. l ++ b) e ∙ append_assoc old a b
 
-pub accessed-Assign : (site : SiteId) (x : VarId) (e : Expr) → accessed_at (tree.Assign site x e) ≡ record { site = site.0; loads = loaded_list e; stores = Some x.0 } ∷ []
+pub accessed-Assign : (site : SiteId) (x : VarId) (e : Expr) →
+    accessed_at (tree.Assign site x e) ≡ record { site = site.0; loads = loaded_list e; stores = Some x.0 } ∷ []
 unfolding accessed_at loaded_list
 accessed-Assign site x e = refl
 
-pub accessed-Store : (site : SiteId) (x : VarId) (i e : Expr) → accessed_at (tree.Store site x i e) ≡ record { site = site.0; loads = loaded_list i ++ loaded_list e; stores = Some x.0 } ∷ []
+pub accessed-Store : (site : SiteId) (x : VarId) (i e : Expr) →
+    accessed_at (tree.Store site x i e) ≡ record { site = site.0; loads = loaded_list i ++ loaded_list e; stores = Some x.0 } ∷ []
 unfolding accessed_at loaded_list
 accessed-Store site x i e = refl
 
@@ -72,15 +75,18 @@ pub accessed-Print : (site : SiteId) (e : Expr) → accessed_at (tree.Print site
 unfolding accessed_at loaded_list
 accessed-Print site e = refl
 
-pub accessed-If : (site : SiteId) (e : Expr) (a b : List Stmt) → accessed_at (tree.If site e a b) ≡ record { site = site.0; loads = loaded_list e; stores = None } ∷ []
+pub accessed-If : (site : SiteId) (e : Expr) (a b : List Stmt) →
+    accessed_at (tree.If site e a b) ≡ record { site = site.0; loads = loaded_list e; stores = None } ∷ []
 unfolding accessed_at loaded_list opened
 accessed-If site e a b = refl
 
-pub accessed-While : (site : SiteId) (e : Expr) (a : List Stmt) → accessed_at (tree.While site e a) ≡ record { site = site.0; loads = loaded_list e; stores = None } ∷ []
+pub accessed-While : (site : SiteId) (e : Expr) (a : List Stmt) →
+    accessed_at (tree.While site e a) ≡ record { site = site.0; loads = loaded_list e; stores = None } ∷ []
 unfolding accessed_at loaded_list opened
 accessed-While site e a = refl
 
-pub accessed-Region : (r : ℕ) (site : SiteId) (e : Expr) (a : List Stmt) → accessed_at (tree.Region r site e a) ≡ record { site = site.0; loads = loaded_list e; stores = None } ∷ []
+pub accessed-Region : (r : ℕ) (site : SiteId) (e : Expr) (a : List Stmt) →
+    accessed_at (tree.Region r site e a) ≡ record { site = site.0; loads = loaded_list e; stores = None } ∷ []
 unfolding accessed_at loaded_list opened
 accessed-Region r site e a = refl
 
@@ -92,7 +98,8 @@ pub accessed-Call : (f line : ℕ) (args : List Expr) → accessed_at (tree.Call
 unfolding accessed_at
 accessed-Call f line args = refl
 
-pub ruleset accessed_forms = (append-nil, accessed-Assign, accessed-Store, accessed-Print, accessed-If, accessed-While, accessed-Region, accessed-Break, accessed-Call)
+pub ruleset accessed_forms =
+    (append-nil, accessed-Assign, accessed-Store, accessed-Print, accessed-If, accessed-While, accessed-Region, accessed-Break, accessed-Call)
 
 -- the rows of a statement are those of its sites
 one_accessed : (x : Stmt) → asked accessed_at x ≡ map row_of (accesses x)

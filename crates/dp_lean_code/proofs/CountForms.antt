@@ -1,6 +1,6 @@
 -- The numbers at the sites of statements, by form and one after the other.
-use Rattle.dp_semantics.proofs.Names.{opened_statement, hidden-the_row-Stmt-0, ◌≡◌, refl, ap, ◌∙◌, append-nil, ℕ, ◌+◌, Bool, true, false, if◌then◌else◌, List, [], ◌∷◌, ◌++◌, length, take, Option, None, SiteId, Expr, Stmt, Program, Plan}
-use Rattle.std.proofs.Common.{slice_set}
+use Rattle.dp_semantics.proofs.Names.{opened_statement, hidden-the_row-Stmt-0, ◌≡◌, refl, ap, ◌∙◌, append-nil, ℕ, ◌+◌, Bool, true, false, if◌then◌else◌, List}
+use Rattle.dp_semantics.proofs.Names.{[], ◌∷◌, ◌++◌, length, take, Option, None, SiteId, Expr, Stmt, Program, Plan}
 use Rattle.dp_base.specs.declared.VarId.{VarId}
 use Rattle.dp_tree.specs.declared.Stmt.TheVariants as tree
 use Rattle.dp_tree.specs.Statements.{listed}
@@ -42,11 +42,6 @@ none-Call f line args = refl
 
 pub ruleset none_forms = (append-nil, none-Assign, none-Store, none-Print, none-If, none-While, none-Region, none-Break, none-Call)
 
--- the first of what was appended is written over
-pub first_set : (old more : List ℕ) (n : ℕ) → slice_set (old ++ more) (length old) n ≡ old ++ slice_set more 0 n
-first_set [] more n = refl
-first_set (x ∷ old) more n = ap (λ xs. x ∷ xs) (first_set old more n)
-
 module _ (p : Program) (plan : Plan) where
   -- the front of a run is the run
   pub run_taken : (t : ℕ) (xs : List Stmt) → take (length (run_in p plan t xs)) xs ≡ run_in p plan t xs
@@ -69,10 +64,13 @@ module _ (p : Program) (plan : Plan) where
     unfolding inner_counts list_counts opened_statement
     counts_hidden before [] = refl
     counts_hidden before (x ∷ xs) =
-        ap (λ ys. head_counts p plan homes (quiet_in p plan (own_stage p plan x) x) before x ys (inner_counts p plan homes x) ++ row_counts p plan homes (behind_in p plan homes x) (hidden-the_row-Stmt-0 xs)) (listed_hidden xs)
-        ∙ ap (λ ys. head_counts p plan homes (quiet_in p plan (own_stage p plan x) x) before x xs (inner_counts p plan homes x) ++ ys) (counts_hidden (behind_in p plan homes x) xs)
+        ap (λ ys. head_counts p plan homes (quiet_in p plan (own_stage p plan x) x) before x ys (inner_counts p plan homes x) ++ row_counts p plan homes
+        (behind_in p plan homes x) (hidden-the_row-Stmt-0 xs)) (listed_hidden xs)
+        ∙ ap (λ ys. head_counts p plan homes (quiet_in p plan (own_stage p plan x) x) before x xs (inner_counts p plan homes x) ++ ys)
+        (counts_hidden (behind_in p plan homes x) xs)
 
-    pub inner-If : (site : SiteId) (e : Expr) (a b : List Stmt) → inner_counts p plan homes (tree.If site e a b) ≡ list_counts p plan homes None a ++ list_counts p plan homes None b
+    pub inner-If : (site : SiteId) (e : Expr) (a b : List Stmt) → inner_counts p plan homes (tree.If site e a b) ≡ list_counts p plan homes None a
+        ++ list_counts p plan homes None b
     unfolding inner_counts opened_statement
     inner-If site e a b = λ i. counts_hidden None a i ++ counts_hidden None b i
 
@@ -103,5 +101,3 @@ module _ (p : Program) (plan : Plan) where
     pub inner-Call : (f line : ℕ) (args : List Expr) → inner_counts p plan homes (tree.Call f line args) ≡ []
     unfolding inner_counts
     inner-Call f line args = refl
-
-pub ruleset inner_forms = (append-nil, inner-Assign, inner-Store, inner-Print, inner-Break, inner-Call, inner-If, inner-While, inner-Region)

@@ -1,5 +1,6 @@
 -- The numbers at the sites of statements, appended one statement after the other.
-use Rattle.dp_semantics.proofs.Names.{◌≡◌, refl, sym, ap, ◌∙◌, append_assoc, append-nil, ℕ, suc, ◌+◌, ◌<◌, if◌then◌else◌, Bool, true, false, List, [], ◌∷◌, ◌++◌, length, drop, get_or, filter, flat_map, Option, Some, None, Stmt, Program, Plan, is_region_at}
+use Rattle.dp_semantics.proofs.Names.{◌≡◌, refl, sym, ap, ◌∙◌, append_assoc, append-nil, ℕ, suc, ◌+◌, ◌<◌, if◌then◌else◌, Bool, true, false, List, [], ◌∷◌}
+use Rattle.dp_semantics.proofs.Names.{◌++◌, length, drop, get_or, filter, flat_map, Option, Some, None, Stmt, Program, Plan, is_region_at}
 use Rattle.std.proofs.Common.{add-one, drop-cons, slice_set}
 use Rattle.dp_tree.specs.Statements.{asked}
 use Rattle.dp_plan.specs.Walks.{is_region_of}
@@ -22,10 +23,12 @@ module _ (p : Program) (plan : Plan) (homes : List (Option ℕ)) where
     cons = rw add-one (drop-cons all i x h ∙ ap (λ (y : Stmt). y ∷ drop (suc i) all) (sym is))
 
     by_quiet : (c : Bool) → quiet_in p plan (own_stage p plan x) x ≡ c →
-        out ++ (head_counts p plan homes c before x rest (inner_counts p plan homes x) ++ list_counts p plan homes (if c then Some (own_stage p plan x) else None) rest) ≡ whole
+        out ++ (head_counts p plan homes c before x rest (inner_counts p plan homes x) ++ list_counts p plan homes (if c then Some (own_stage p plan x)
+        else None) rest) ≡ whole
     unfolding list_counts
     by_quiet c q =
-        ap (λ (d : Bool). out ++ (head_counts p plan homes d before x rest (inner_counts p plan homes x) ++ list_counts p plan homes (if d then Some (own_stage p plan x) else None) rest)) (sym q)
+        ap (λ (d : Bool). out ++ (head_counts p plan homes d before x rest (inner_counts p plan homes x) ++ list_counts p plan homes
+        (if d then Some (own_stage p plan x) else None) rest)) (sym q)
         ∙ ap (λ xs. out ++ list_counts p plan homes before xs) (sym cons) ∙ kept
 
     -- a quiet statement more
@@ -42,7 +45,8 @@ module _ (p : Program) (plan : Plan) (homes : List (Option ℕ)) where
         ∙ by_quiet true (ap (λ n. quiet_in p plan n x) (sym stage) ∙ q)
 
     -- .. or another one
-    pub plain_next : (t : ℕ) (one new : List ℕ) → t ≡ own_stage p plan x → quiet_in p plan t x ≡ false → one ≡ out ++ none_at x → new ≡ one ++ inner_counts p plan homes x →
+    pub plain_next : (t : ℕ) (one new : List ℕ) → t ≡ own_stage p plan x → quiet_in p plan t x ≡ false → one ≡ out ++ none_at x →
+        new ≡ one ++ inner_counts p plan homes x →
         new ++ list_counts p plan homes None rest ≡ whole
     plain_next t one new stage q one_is new_is =
         let more = list_counts p plan homes None rest in
@@ -58,12 +62,15 @@ module _ (p : Program) (plan : Plan) (homes : List (Option ℕ)) where
   abbrev pub in_region : List Stmt → List ℕ
   in_region xs = flat_map (region_counts p plan homes) (filter (is_region_at plan.region) xs)
 
-  region_case : (x : Stmt) (xs : List Stmt) (b : Bool) → is_region_at plan.region x ≡ b → in_region (x ∷ xs) ≡ (if b then region_counts p plan homes x ++ in_region xs else in_region xs)
+  region_case : (x : Stmt) (xs : List Stmt) (b : Bool) → is_region_at plan.region x ≡ b →
+      in_region (x ∷ xs) ≡ (if b then region_counts p plan homes x ++ in_region xs else in_region xs)
   region_case x xs true e = rw e refl
   region_case x xs false e = rw e refl
 
-  module _ (all : List Stmt) (i : ℕ) (x : Stmt) (h : i < length all) (is : x ≡ get_or all i x) (out whole : List ℕ) (kept : out ++ in_region (drop i all) ≡ whole) where
-    pub region_next : (one new : List ℕ) → is_region_of plan.region x ≡ true → one ≡ out ++ none_at x → new ≡ one ++ inner_counts p plan homes x → new ++ in_region (drop (i + 1) all) ≡ whole
+  module _ (all : List Stmt) (i : ℕ) (x : Stmt) (h : i < length all) (is : x ≡ get_or all i x) (out whole : List ℕ)
+      (kept : out ++ in_region (drop i all) ≡ whole) where
+    pub region_next : (one new : List ℕ) → is_region_of plan.region x ≡ true → one ≡ out ++ none_at x → new ≡ one ++ inner_counts p plan homes x →
+        new ++ in_region (drop (i + 1) all) ≡ whole
     unfolding is_region_of region_counts
     region_next one new e one_is new_is =
         ap (λ ns. ns ++ in_region (drop (i + 1) all)) (two_parts out one new (none_at x) (inner_counts p plan homes x) one_is new_is)

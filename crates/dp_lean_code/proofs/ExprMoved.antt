@@ -62,11 +62,14 @@ module _ (n : ℕ) where
     expr_moved (expr.Element' x _ (more_of-Expr e end_of-Expr)) k = one_moved (expr_code p e) (λ j. expr_moved e j) _ refl k
     expr_moved (expr.Unary' o _ (more_of-Expr e end_of-Expr)) k = one_moved (expr_code p e) (λ j. expr_moved e j) (op.Unary o) refl k
     expr_moved (expr.Binary' o _ (more_of-Expr a end_of-Expr) _ (more_of-Expr b end_of-Expr)) k =
-        then_moved (expr_code p a) (λ j. expr_code p b j ++ op.Binary o ∷ []) (λ j. expr_moved a j) (one_moved (expr_code p b) (λ j. expr_moved b j) (op.Binary o) refl) k
+        then_moved (expr_code p a) (λ j. expr_code p b j ++ op.Binary o ∷ []) (λ j. expr_moved a j) (one_moved (expr_code p b) (λ j. expr_moved b j)
+        (op.Binary o) refl) k
     expr_moved (expr.And' _ (more_of-Expr a end_of-Expr) _ (more_of-Expr b end_of-Expr)) k =
-        then_moved (expr_code p a) (λ j. guarded op.SkipIfZero j (expr_code p b)) (λ j. expr_moved a j) (guard_moved op.SkipIfZero (λ to. refl) (expr_code p b) (λ j. expr_moved b j)) k
+        then_moved (expr_code p a) (λ j. guarded op.SkipIfZero j (expr_code p b)) (λ j. expr_moved a j) (guard_moved op.SkipIfZero (λ to. refl) (expr_code p b)
+        (λ j. expr_moved b j)) k
     expr_moved (expr.Or' _ (more_of-Expr a end_of-Expr) _ (more_of-Expr b end_of-Expr)) k =
-        then_moved (expr_code p a) (λ j. guarded op.SkipIfNotZero j (expr_code p b)) (λ j. expr_moved a j) (guard_moved op.SkipIfNotZero (λ to. refl) (expr_code p b) (λ j. expr_moved b j)) k
+        then_moved (expr_code p a) (λ j. guarded op.SkipIfNotZero j (expr_code p b)) (λ j. expr_moved a j)
+        (guard_moved op.SkipIfNotZero (λ to. refl) (expr_code p b) (λ j. expr_moved b j)) k
 
 -- the ops of an expression's code, appended one by one
 pub value_appended : (p : Program) (e : Expr) (old ops : List LeanOp) (items code fresh : List Op) (by i : ℕ) →

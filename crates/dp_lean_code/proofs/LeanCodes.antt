@@ -1,5 +1,6 @@
 -- The code of each stage's lean text does what the lean turn does.
-use Rattle.dp_semantics.proofs.Names.{◌≡◌, refl, sym, ap, ◌∙◌, subst, append-nil, arith, ◌<◌, ◌≤◌, ℕ, zero, suc, ◌+◌, ◌&&◌, Bool, true, false, List, [], ◌∷◌, ◌++◌, length, ℤ, list_all, and_parts, Stmt, Row_of-Stmt, end_of-Stmt, more_of-Stmt, Program, Plan, Some, fits_plan}
+use Rattle.dp_semantics.proofs.Names.{◌≡◌, refl, sym, ap, ◌∙◌, subst, append-nil, arith, ◌<◌, ◌≤◌, ℕ, zero, suc, ◌+◌, ◌&&◌, Bool, true, false, List, [], ◌∷◌}
+use Rattle.dp_semantics.proofs.Names.{◌++◌, length, ℤ, list_all, and_parts, Stmt, Row_of-Stmt, end_of-Stmt, more_of-Stmt, Program, Plan, Some, fits_plan}
 use Rattle.dp_tree.specs.declared.Stmt.TheVariants as tree
 use Rattle.dp_tree.specs.declared.Stmt.TheViews.{outs-Assign, outs-Store, outs-If', outs-While'}
 use Rattle.dp_tree.specs.Inlined.{IsInlined}
@@ -49,18 +50,22 @@ module _ (p : Program) (plan : Plan) (s t : ℕ) where
     quiet_row : {n : _} (row : Row_of-Stmt n) → everywhere_in (quiet_at p plan t) row ≡ true → Text (no_blocks p plan s) (listed row)
     quiet_row end_of-Stmt q = texts.ends
     quiet_row (more_of-Stmt x rest) q =
-        let both = and_parts (is_quiet p plan t x) (everywhere_in (quiet_at p plan t) rest) q in text_join (no_blocks p plan s) (quiet_one x both.0) (quiet_row rest both.1)
+        let both = and_parts (is_quiet p plan t x) (everywhere_in (quiet_at p plan t) rest) q in
+        text_join (no_blocks p plan s) (quiet_one x both.0) (quiet_row rest both.1)
 
   pub quiet_text : (xs : List Stmt) → AllQuiet p plan t xs → Text (no_blocks p plan s) xs
   quiet_text [] q = texts.ends
-  quiet_text (x ∷ xs) q = let both = and_parts (is_quiet p plan t x) (all_quiet p plan t xs) q in text_join (no_blocks p plan s) (quiet_one x both.0) (quiet_text xs both.1)
+  quiet_text (x ∷ xs) q = let both = and_parts (is_quiet p plan t x) (all_quiet p plan t xs) q in
+      text_join (no_blocks p plan s) (quiet_one x both.0) (quiet_text xs both.1)
 
 -- The code of a lean text that has its blocks whole is right.
-is_lean_code : (p : Program) (plan : Plan) (s : ℕ) (m : Marks) → ((input : List ℤ) → Marked p plan m input) → Text m (lean_text p plan m s) → IsLeanCode p plan m s (lean_code p plan s m)
+is_lean_code : (p : Program) (plan : Plan) (s : ℕ) (m : Marks) → ((input : List ℤ) → Marked p plan m input) → Text m (lean_text p plan m s) →
+    IsLeanCode p plan m s (lean_code p plan s m)
 is_lean_code p plan s m marked text input cells queues end comes =
     let ops = list_code p plan s m (block_code p plan s) zero (lean_text p plan m s) 0 in
     let code = lean_code p plan s m in
-    let over : From (lean_code p plan s m) (0 + length (list_code p plan s m (block_code p plan s) zero (lean_text p plan m s) 0)) (Plain op.End ∷ []) = later code 0 ops (Plain op.End ∷ []) refl in
+    let over : From (lean_code p plan s m) (0 + length (list_code p plan s m (block_code p plan s) zero (lean_text p plan m s) 0)) (Plain op.End ∷ []) = later
+    code 0 ops (Plain op.End ∷ []) refl in
     let some = some_block p plan s m in
     all_run p plan s m input (marked input) (λ t xs q. quiet_text p plan s t xs q) code (0 + length ops) over comes.0 0 (lean_text p plan m s)
     (record { cells = cells; queues = queues; own = []; closing = false; block = Rattle.dp_semantics.proofs.Names.None }) end

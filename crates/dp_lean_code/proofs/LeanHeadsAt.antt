@@ -1,5 +1,7 @@
 -- What the code at the head of a lean text does, and what stands behind it.
-use Rattle.dp_semantics.proofs.Names.{◌≡◌, refl, sym, ap, ◌∙◌, subst, append_assoc, length-append, arith, ◌<◌, ℕ, ◌+◌, ◌==◌, if◌then◌else◌, Bool, true, false, not, List, [], ◌∷◌, ◌++◌, length, ℤ, is_zero, taken, SiteId, Expr, Stmt, Stmt-F, Assign, Store, Print, If, While, Region, Break, Call, Program, Plan, site_of, followed, choose, behind_region, stage_of}
+use Rattle.dp_semantics.proofs.Names.{◌≡◌, refl, sym, ap, ◌∙◌, subst, append_assoc, length-append, arith, ◌<◌, ℕ, ◌+◌, ◌==◌, if◌then◌else◌, Bool, true, false}
+use Rattle.dp_semantics.proofs.Names.{not, List, [], ◌∷◌, ◌++◌, length, ℤ, is_zero, taken, SiteId, Expr, Stmt, Stmt-F, Assign, Store, Print, If, While, Region}
+use Rattle.dp_semantics.proofs.Names.{Break, Call, Program, Plan, site_of, followed, choose, behind_region, stage_of}
 use Rattle.dp_net.specs.NetItems.{Marks}
 use Rattle.dp_code.specs.declared.Op.TheVariants as op
 use Rattle.dp_code.specs.FlatRun.{by_zero}
@@ -40,8 +42,10 @@ module _ (p : Program) (plan : Plan) (s : ℕ) (m : Marks) (inner : SiteId → L
   test_end site cond at = at + length (test_code p plan s site cond at)
 
   -- a condition with its two ways
-  decides_at : (site : SiteId) (cond : Expr) (at : ℕ) (here other : List Stmt) (rest : List LeanOp) (f : Forks p plan s m inner some_inner code last site (test_end site cond at) here other) →
-      From code at (test_code p plan s site cond at ++ rest) → Decides p plan hides input code (stage_of p plan site.0 == s) at site (λ z. by_zero z f.to (test_end site cond at + 1)) cond
+  decides_at : (site : SiteId) (cond : Expr) (at : ℕ) (here other : List Stmt) (rest : List LeanOp)
+      (f : Forks p plan s m inner some_inner code last site (test_end site cond at) here other) →
+      From code at (test_code p plan s site cond at ++ rest) → Decides p plan hides input code (stage_of p plan site.0 == s) at site
+      (λ z. by_zero z f.to (test_end site cond at + 1)) cond
   decides_at site cond at here other rest f from =
       let ops = test_code p plan s site cond at in
       let rest_is = sym (later code at ops rest from) ∙ f.from in
@@ -54,9 +58,11 @@ module _ (p : Program) (plan : Plan) (s : ℕ) (m : Marks) (inner : SiteId → L
     where
       by : (t : Bool) → Follows (if t then k + 2 else k + 1) (not t) (if t then xs else behind_region xs)
       by true = Onward (k + 2) xs on
-      by false = subst (λ ys. Follows (k + 1) true ys) (sym none) (Leaves (k + 1) rest xs from (let k_is : k + 2 ≡ k + 1 + 1 = omega arith in subst (λ n. Standing n xs) k_is on))
+      by false = subst (λ ys. Follows (k + 1) true ys) (sym none)
+          (Leaves (k + 1) rest xs from (let k_is : k + 2 ≡ k + 1 + 1 = omega arith in subst (λ n. Standing n xs) k_is on))
 
-  pub head_at : (x : Stmt) (xs : List Stmt) (head : Stmt-F Stmt) (at : ℕ) (rest : List LeanOp) → TextHead m head → behind_region xs ≡ [] → From code at (head_code p plan s m inner some_inner head at ++ rest) →
+  pub head_at : (x : Stmt) (xs : List Stmt) (head : Stmt-F Stmt) (at : ℕ) (rest : List LeanOp) → TextHead m head → behind_region xs ≡ [] →
+      From code at (head_code p plan s m inner some_inner head at ++ rest) →
       Standing (at + length (head_code p plan s m inner some_inner head at)) xs → Standing at (x ∷ xs) → At x xs head at
   head_at x xs (Assign site v e) at rest t none from st again = record {
     to = λ z. at + length (head_code p plan s m inner some_inner (Assign site v e) at);
@@ -79,11 +85,14 @@ module _ (p : Program) (plan : Plan) (s : ℕ) (m : Marks) (inner : SiteId → L
       let more = choice (branch p plan s site) (code_of p plan s m inner some_inner a) (code_of p plan s m inner some_inner b) k in
       let from' = from ∙ append_assoc ops more rest in
       let e : at + length (ops ++ more) ≡ k + length more = omega (arith, length-append ops more) in
-      let f = choice_forks p plan s m inner some_inner code last site k a b xs rest t.0 t.1 (later code at ops (more ++ rest) from') (subst (λ n. Standing n xs) e st) in
+      let f = choice_forks p plan s m inner some_inner code last site k a b xs rest t.0 t.1 (later code at ops (more ++ rest) from')
+      (subst (λ n. Standing n xs) e st) in
       record {
         to = λ z. by_zero z f.to (k + 1);
-        does = if_does p plan hides input code (stage_of p plan site.0 == s) at site (λ z. by_zero z f.to (k + 1)) cond a b (decides_at site cond at (a ++ xs) (b ++ xs) (more ++ rest) f from');
-        follows = λ z. Onward (by_zero z f.to (k + 1)) _ (subst (λ ys. Standing (by_zero z f.to (k + 1)) ys) (choose_append z a b xs) (forked p plan s m inner some_inner code last site k (a ++ xs) (b ++ xs) f z));
+        does = if_does p plan hides input code (stage_of p plan site.0 == s) at site (λ z. by_zero z f.to (k + 1)) cond a b
+            (decides_at site cond at (a ++ xs) (b ++ xs) (more ++ rest) f from');
+        follows = λ z. Onward (by_zero z f.to (k + 1)) _ (subst (λ ys. Standing (by_zero z f.to (k + 1)) ys) (choose_append z a b xs)
+            (forked p plan s m inner some_inner code last site k (a ++ xs) (b ++ xs) f z));
       }
   head_at x xs (While site cond a) at rest t none from st again =
       let ops = test_code p plan s site cond at in
@@ -91,10 +100,12 @@ module _ (p : Program) (plan : Plan) (s : ℕ) (m : Marks) (inner : SiteId → L
       let more = repetition at (branch p plan s site) (code_of p plan s m inner some_inner a) k in
       let from' = from ∙ append_assoc ops more rest in
       let e : at + length (ops ++ more) ≡ k + length more = omega (arith, length-append ops more) in
-      let f = repetition_forks p plan s m inner some_inner code last site at k a x xs rest t (later code at ops (more ++ rest) from') (subst (λ n. Standing n xs) e st) again in
+      let f = repetition_forks p plan s m inner some_inner code last site at k a x xs rest t (later code at ops (more ++ rest) from')
+      (subst (λ n. Standing n xs) e st) again in
       record {
         to = λ z. by_zero z f.to (k + 1);
-        does = while_does p plan hides input code (stage_of p plan site.0 == s) at site (λ z. by_zero z f.to (k + 1)) cond a (decides_at site cond at (a ++ x ∷ xs) xs (more ++ rest) f from');
+        does = while_does p plan hides input code (stage_of p plan site.0 == s) at site (λ z. by_zero z f.to (k + 1)) cond a
+            (decides_at site cond at (a ++ x ∷ xs) xs (more ++ rest) f from');
         follows = λ z. Onward (by_zero z f.to (k + 1)) _ (forked p plan s m inner some_inner code last site k (a ++ x ∷ xs) xs f z);
       }
   head_at x xs (Break site cond) at rest t none from st again =

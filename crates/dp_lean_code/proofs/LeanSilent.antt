@@ -1,9 +1,12 @@
 -- The code of an own block: it stays silent, and comes to what its statements come to.
-use Rattle.dp_semantics.proofs.Names.{◌≡◌, refl, sym, ap, ◌∙◌, subst, arith, eq-eqb, le-leb, or-false, ◌<◌, ◌≤◌, ℕ, zero, suc, ◌+◌, ◌==◌, ◌||◌, ◌&&◌, if◌then◌else◌, Bool, true, false, List, [], ◌∷◌, ◌++◌, length, ℤ, Option, Some, None, Ok, Err, nat_le, inl, inr, cases_Bool, leb-true, SiteId, Stmt, out-Stmt, Stmt-F, Program, Plan, Evaluated, evaluated, WithLoads, Event, Effect, site_of, value_of, stored, followed, taken, stage_of, first_site, is_zero_at, is_zero, and_parts}
+use Rattle.dp_semantics.proofs.Names.{◌≡◌, refl, sym, ap, ◌∙◌, subst, arith, eq-eqb, le-leb, or-false, ◌<◌, ◌≤◌, ℕ, zero, suc, ◌+◌, ◌==◌, ◌||◌, ◌&&◌}
+use Rattle.dp_semantics.proofs.Names.{if◌then◌else◌, Bool, true, false, List, [], ◌∷◌, ◌++◌, length, ℤ, Option, Some, None, Ok, Err, nat_le, inl, inr}
+use Rattle.dp_semantics.proofs.Names.{cases_Bool, leb-true, SiteId, Stmt, out-Stmt, Program, Plan, Evaluated, evaluated, WithLoads, Event, Effect, site_of}
+use Rattle.dp_semantics.proofs.Names.{value_of, stored, followed, taken, stage_of, first_site, is_zero_at, is_zero, and_parts}
 use Rattle.dp_semantics.proofs.Ways.{event_of}
 use Rattle.dp_code.specs.declared.Op.TheVariants as op
 use Rattle.dp_net.specs.NetItems.{Marks, weights, net_behind}
-use Rattle.dp_net.specs.Quiet.{Outcome, Through, Broke, with_event, quiet_by}
+use Rattle.dp_net.specs.Quiet.{BlockOutcome, Through, Broke, with_event, quiet_by}
 unfoldable use Rattle.dp_net.specs.Quiet.{quiet_from}
 use Rattle.dp_net.proofs.Blocks.{effects_of, head_of, onward}
 use Rattle.dp_net.proofs.Silent.{AllQuiet, QuietHead}
@@ -24,7 +27,8 @@ module _ (p : Program) (plan : Plan) (s : ℕ) (m : Marks) (input : List ℤ) (c
   abbrev pub nothing_inside : SiteId → List Stmt → ℕ → List LeanOp
   nothing_inside site block at = []
 
-  pub no_inner : (f : ℕ) (y : Stmt) (ys : List Stmt) → (no_blocks p plan s).block_at f ≡ y ∷ ys → (site : SiteId) (at : ℕ) → 0 < length (nothing_inside site (y ∷ ys) at)
+  pub no_inner : (f : ℕ) (y : Stmt) (ys : List Stmt) → (no_blocks p plan s).block_at f ≡ y ∷ ys → (site : SiteId) (at : ℕ) →
+      0 < length (nothing_inside site (y ∷ ys) at)
   no_inner f y ys e site at = absurd (cc e)
 
   abbrev pub StandsSilent : ℕ → List Stmt → Type 0
@@ -35,7 +39,8 @@ module _ (p : Program) (plan : Plan) (s : ℕ) (m : Marks) (input : List ℤ) (c
   left at _ Over = refl
   left at _ (Jumps k to xs rest from st) = left to xs st
   left at _ (Here k x xs rest none t from st) =
-      ap (λ (o : Option ℕ). Rattle.dp_semantics.proofs.Names.behind_one o xs (Rattle.dp_semantics.proofs.Names.behind_region xs)) (head_number (no_blocks p plan s) (out-Stmt x) t) ∙ left _ xs st
+      ap (λ (o : Option ℕ). Rattle.dp_semantics.proofs.Names.behind_one o xs (Rattle.dp_semantics.proofs.Names.behind_region xs))
+      (head_number (no_blocks p plan s) (out-Stmt x) t) ∙ left _ xs st
   left at _ (Whole k x b more xs rest is same from st) = absurd (clash is)
     where
       clash : [] ≡ x ∷ b → ⊥
@@ -52,14 +57,17 @@ module _ (p : Program) (plan : Plan) (s : ℕ) (m : Marks) (input : List ℤ) (c
   }
 
   -- the run goes on where the block is through, or breaks off
-  abbrev pub Comes : ℕ → Held → Silent → Outcome → Type 0
-  Comes at h b (Through events after) = (end : LeanEnd) → RunEnds p plan m input code (between p plan m input code last (through_with h b events after)) end → RunEnds p plan m input code (between p plan m input code at h) end
+  abbrev pub Comes : ℕ → Held → Silent → BlockOutcome → Type 0
+  Comes at h b (Through events after) = (end : LeanEnd) → RunEnds p plan m input code (between p plan m input code last (through_with h b events after)) end →
+      RunEnds p plan m input code (between p plan m input code at h) end
   Comes at h b Broke = RunEnds p plan m input code (between p plan m input code at h) BrokenOff
 
   abbrev Runs : ℕ → Type 0
-  Runs n = (at : ℕ) (xs : List Stmt) (h : Held) (b : Silent) → StandsSilent at xs → AllQuiet p plan s xs → h.block ≡ Some b → weights h.own + b.count + n ≡ plan.words → Comes at h b (quiet_from p input n xs h.cells)
+  Runs n = (at : ℕ) (xs : List Stmt) (h : Held) (b : Silent) → StandsSilent at xs → AllQuiet p plan s xs → h.block ≡ Some b →
+      weights h.own + b.count + n ≡ plan.words → Comes at h b (quiet_from p input n xs h.cells)
 
-  on_from : (at : ℕ) (t : Bool) (xs : List Stmt) → Follows p plan s (no_blocks p plan s) nothing_inside no_inner m input code last at t xs → t ≡ false → StandsSilent at xs
+  on_from : (at : ℕ) (t : Bool) (xs : List Stmt) → Follows p plan s (no_blocks p plan s) nothing_inside no_inner m input code last at t xs →
+      t ≡ false → StandsSilent at xs
   on_from at _ _ (Onward k xs st) e = st
   on_from at _ _ (Leaves k rest xs from st) e = absurd (cc e)
 
@@ -68,7 +76,8 @@ module _ (p : Program) (plan : Plan) (s : ℕ) (m : Marks) (input : List ℤ) (c
   broken_anyway (Err kind) = refl
 
   nothing_done : (h : Held) (b : Silent) → h.block ≡ Some b → h ≡ through_with h b [] h.cells
-  nothing_done h b e = ap (λ (o : Option Silent). record { cells = h.cells; queues = h.queues; own = h.own; closing = h.closing; block = o }) (e ∙ ap Some (same b))
+  nothing_done h b e =
+      ap (λ (o : Option Silent). record { cells = h.cells; queues = h.queues; own = h.own; closing = h.closing; block = o }) (e ∙ ap Some (same b))
     where
       same : (b : Silent) → b ≡ record { site = b.site; count = b.count + 0; told = b.told }
       same b = let e : b.count ≡ b.count + 0 = omega arith in ap (λ (n : ℕ). record { site = b.site; count = n; told = b.told }) e
@@ -80,9 +89,6 @@ module _ (p : Program) (plan : Plan) (s : ℕ) (m : Marks) (input : List ℤ) (c
 
   module _ (x : Stmt) (xs : List Stmt) (at : ℕ) (h : Held) (b : Silent) (quiet : AllQuiet p plan s (x ∷ xs)) (here : h.block ≡ Some b)
       (a : At p plan s (no_blocks p plan s) nothing_inside no_inner m input code last x xs (out-Stmt x) at) where
-    abbrev head : Stmt-F Stmt
-    head = out-Stmt x
-
     q : QuietHead p plan s (out-Stmt x)
     q = head_of p plan s x xs quiet
 
@@ -111,10 +117,12 @@ module _ (p : Program) (plan : Plan) (s : ℕ) (m : Marks) (input : List ℤ) (c
 
       -- behind one step
       step_runs : (v : WithLoads Effect) (end : LeanEnd) → evaluated p input h.cells (out-Stmt x) ≡ Ok v →
-          RunEnds p plan m input code (between p plan m input code (a.to (value_of v.value)) (held_next v.value)) end → RunEnds p plan m input code (between p plan m input code at h) end
+          RunEnds p plan m input code (between p plan m input code (a.to (value_of v.value)) (held_next v.value)) end →
+          RunEnds p plan m input code (between p plan m input code at h) end
       step_runs v end gave run =
           let all = does h (λ w. end) (λ w also c mv. goes p plan m input code c (between p plan m input code (a.to (value_of v.value)) (held_next v.value)) end
-          (mv ∙ rw here (rw fits (ap (λ (u : WithLoads Effect). Goes (between p plan m input code (a.to (value_of u.value)) (held_next u.value))) (same w also)))) run) in
+          (mv ∙ rw here (rw fits (ap (λ (u : WithLoads Effect). Goes (between p plan m input code (a.to (value_of u.value)) (held_next u.value)))
+          (same w also)))) run) in
           (all.0, all.1 ∙ ap Some (ap (λ (r : Evaluated Effect). end_by r (λ w. end)) gave))
         where
           same : (w : WithLoads Effect) → evaluated p input h.cells (out-Stmt x) ≡ Ok w → w ≡ v
@@ -127,27 +135,63 @@ module _ (p : Program) (plan : Plan) (s : ℕ) (m : Marks) (input : List ℤ) (c
           through_with (held_next effect) (one_more p plan m b effect) es after ≡ through_with h b (event ∷ es) after
       then_same effect event is es after =
           let size : b.count + 1 + length es ≡ b.count + suc (length es) = omega arith in
-          ap (λ (c : Bool). record { cells = after; queues = h.queues; own = h.own; closing = c; block = Some (record { site = b.site; count = b.count + 1 + length es; told = net_behind (m.hides (stage_of p plan b.site)) b.told (effect ∷ effects_of es) }) }) (closed_same effect)
-          ∙ ap (λ (k : ℕ). record { cells = after; queues = h.queues; own = h.own; closing = h.closing; block = Some (record { site = b.site; count = k; told = net_behind (m.hides (stage_of p plan b.site)) b.told (effect ∷ effects_of es) }) }) size
-          ∙ ap (λ (f : Effect). record { cells = after; queues = h.queues; own = h.own; closing = h.closing; block = Some (record { site = b.site; count = b.count + suc (length es); told = net_behind (m.hides (stage_of p plan b.site)) b.told (f ∷ effects_of es) }) }) (sym is)
+          ap (λ (c : Bool). record {
+            cells = after;
+            queues = h.queues;
+            own = h.own;
+            closing = c;
+            block = Some (record {
+              site = b.site;
+              count = b.count + 1 + length es;
+              told = net_behind (m.hides (stage_of p plan b.site)) b.told (effect
+                  ∷ effects_of es);
+            });
+          }) (closed_same effect)
+          ∙ ap (λ (k : ℕ). record {
+            cells = after;
+            queues = h.queues;
+            own = h.own;
+            closing = h.closing;
+            block = Some (record { site = b.site; count = k; told = net_behind (m.hides (stage_of p plan b.site)) b.told (effect ∷ effects_of es) });
+          }) size
+          ∙ ap (λ (f : Effect).
+          record {
+            cells = after;
+            queues = h.queues;
+            own = h.own;
+            closing = h.closing;
+            block = Some (record {
+              site = b.site;
+              count = b.count + suc (length
+                  es);
+              told = net_behind (m.hides (stage_of p plan b.site)) b.told (f ∷ effects_of es);
+            });
+          }) (sym is)
 
-      by_value : (r : Evaluated Effect) → evaluated p input h.cells (out-Stmt x) ≡ r → Comes at h b (quiet_by (quiet_from p input n) x xs h.cells (out-Stmt x) r)
+      by_value : (r : Evaluated Effect) → evaluated p input h.cells (out-Stmt x) ≡ r →
+          Comes at h b (quiet_by (quiet_from p input n) x xs h.cells (out-Stmt x) r)
       by_value (Err kind) gave =
           let all = does h (λ w. BrokenOff) (λ w also c mv. absurd (clash w also)) in
           (all.0, all.1 ∙ ap Some (broken_anyway (evaluated p input h.cells (out-Stmt x))))
         where
           clash : (w : WithLoads Effect) → evaluated p input h.cells (out-Stmt x) ≡ Ok w → ⊥
           clash w also = let both : Err kind ≡ Ok w = sym gave ∙ also in absurd (cc both)
-      by_value (Ok v) gave = by (quiet_from p input n (followed x xs (out-Stmt x) (value_of v.value)) (stored v.value h.cells)) (go (a.to (value_of v.value)) (followed x xs (out-Stmt x) (value_of v.value)) (held_next v.value) (one_more p plan m b v.value)
-          (on_from (a.to (value_of v.value)) (taken (out-Stmt x) (value_of v.value)) (followed x xs (out-Stmt x) (value_of v.value)) (a.follows (value_of v.value)) (q.onward (value_of v.value)))
+      by_value (Ok v) gave = by (quiet_from p input n (followed x xs (out-Stmt x) (value_of v.value)) (stored v.value h.cells))
+          (go (a.to (value_of v.value)) (followed x xs (out-Stmt x) (value_of v.value)) (held_next v.value) (one_more p plan m b v.value)
+          (on_from (a.to (value_of v.value)) (taken (out-Stmt x) (value_of v.value)) (followed x xs (out-Stmt x) (value_of v.value))
+          (a.follows (value_of v.value)) (q.onward (value_of v.value)))
           (onward p plan s x xs (value_of v.value) quiet) refl (omega (arith, room)))
         where
-          by : (o : Outcome) → Comes (a.to (value_of v.value)) (held_next v.value) (one_more p plan m b v.value) o → Comes at h b (with_event (event_of (out-Stmt x) v) o)
+          by : (o : BlockOutcome) → Comes (a.to (value_of v.value)) (held_next v.value) (one_more p plan m b v.value) o →
+              Comes at h b (with_event (event_of (out-Stmt x) v) o)
           by Broke k = step_runs v BrokenOff gave k
-          by (Through es after) k = λ end run. step_runs v end gave (k end (subst (λ (g : Held). RunEnds p plan m input code (between p plan m input code last g) end) (sym (then_same v.value (event_of (out-Stmt x) v) refl es after)) run))
+          by (Through es after) k =
+              λ end run. step_runs v end gave (k end (subst (λ (g : Held). RunEnds p plan m input code (between p plan m input code last g) end)
+              (sym (then_same v.value (event_of (out-Stmt x) v) refl es after)) run))
 
   here_runs : (x : Stmt) (xs : List Stmt) (at : ℕ) (h : Held) (b : Silent) → AllQuiet p plan s (x ∷ xs) → h.block ≡ Some b →
-      At p plan s (no_blocks p plan s) nothing_inside no_inner m input code last x xs (out-Stmt x) at → (n : ℕ) → ((k : ℕ) → n ≡ suc k → Runs k) → weights h.own + b.count + n ≡ plan.words → Comes at h b (quiet_from p input n (x ∷ xs) h.cells)
+      At p plan s (no_blocks p plan s) nothing_inside no_inner m input code last x xs (out-Stmt x) at → (n : ℕ) → ((k : ℕ) → n ≡ suc k → Runs k) →
+      weights h.own + b.count + n ≡ plan.words → Comes at h b (quiet_from p input n (x ∷ xs) h.cells)
   unfolding quiet_from
   here_runs x xs at h b quiet here a zero go room = spent_runs x xs at h b quiet here a room
   here_runs x xs at h b quiet here a (suc n) go room = by_value x xs at h b quiet here a n (go n refl) room (evaluated p input h.cells (out-Stmt x)) refl
@@ -156,14 +200,17 @@ module _ (p : Program) (plan : Plan) (s : ℕ) (m : Marks) (input : List ℤ) (c
   stands_runs n go at _ h b Over quiet here room = over_runs n h b here
   stands_runs n go at _ h b (Jumps k to xs rest from st) quiet here room = by (quiet_from p input n xs h.cells) (stands_runs n go to xs h b st quiet here room)
     where
-      by : (o : Outcome) → Comes to h b o → Comes k h b o
-      by Broke run = goes p plan m input code (between p plan m input code k h) (between p plan m input code to h) _ (moves p plan m input code (between p plan m input code k h) (Plain (op.Jump to)) rest from) run
-      by (Through events after) run = λ end r. goes p plan m input code (between p plan m input code k h) (between p plan m input code to h) _ (moves p plan m input code (between p plan m input code k h) (Plain (op.Jump to)) rest from) (run end r)
+      by : (o : BlockOutcome) → Comes to h b o → Comes k h b o
+      by Broke run = goes p plan m input code (between p plan m input code k h) (between p plan m input code to h) _
+          (moves p plan m input code (between p plan m input code k h) (Plain (op.Jump to)) rest from) run
+      by (Through events after) run = λ end r. goes p plan m input code (between p plan m input code k h) (between p plan m input code to h) _
+          (moves p plan m input code (between p plan m input code k h) (Plain (op.Jump to)) rest from) (run end r)
   stands_runs n go at _ h b (Here k x xs rest none t from st) quiet here room =
       here_runs x xs k h b quiet here
       (head_at p plan s (no_blocks p plan s) nothing_inside no_inner m input code last x xs (out-Stmt x) k rest t (left _ xs st)
       (subst (λ ops. From code k (ops ++ rest)) (code_out p plan s (no_blocks p plan s) nothing_inside no_inner x k) from)
-      (subst (λ ops. StandsSilent (k + length ops) xs) (code_out p plan s (no_blocks p plan s) nothing_inside no_inner x k) st) (Here k x xs rest none t from st)) n go room
+      (subst (λ ops. StandsSilent (k + length ops) xs) (code_out p plan s (no_blocks p plan s) nothing_inside no_inner x k) st)
+      (Here k x xs rest none t from st)) n go room
   stands_runs n go at _ h b (Whole k x c more xs rest is same from st) quiet here room = absurd (clash is)
     where
       clash : [] ≡ x ∷ c → ⊥

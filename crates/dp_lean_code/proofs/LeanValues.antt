@@ -1,5 +1,6 @@
 -- The code of an expression gives its value, with its loads, or breaks the turn off.
-use Rattle.std.proofs.Common.{◌≡◌, refl, ap, ◌∙◌, subst, append_assoc, length-append, if◌then◌else◌, ℕ, ◌+◌, List, [], ◌∷◌, ◌++◌, length, map, ℤ, pos, Ok, Err, arith, inl, inr}
+use Rattle.std.proofs.Common.{◌≡◌, refl, ap, ◌∙◌, subst, append_assoc, length-append, if◌then◌else◌, ℕ, ◌+◌, List, [], ◌∷◌, ◌++◌, length, map, ℤ, pos, Ok, Err}
+use Rattle.std.proofs.Common.{arith, inl, inr}
 use Rattle.std.proofs.lemmas.List.{append-nil, map-append, length-map}
 use Rattle.std.proofs.lemmas.Bool.{cases_Bool}
 use Rattle.dp_base.specs.Arithmetic.{binary_result, unary_result, is_zero}
@@ -43,7 +44,8 @@ module _ (p : Program) (plan : Plan) (m : Marks) (input : List ℤ) (code : List
   abbrev Gives : Flat → Op → List ℤ → Evaluated ℤ → Type 0
   Gives c op below r = lean_op_at p plan m input code c (Plain op) ≡ moved_as c (flat.valued p [] (flat_of c) below r)
 
-  ends_at : (c : Flat) (at last : ℕ) (below : List ℤ) (loads : List Load) (h : Held) (r : Evaluated ℤ) → at ≡ last → Reach c (value_at at below loads h) r → Reach c (value_at last below loads h) r
+  ends_at : (c : Flat) (at last : ℕ) (below : List ℤ) (loads : List Load) (h : Held) (r : Evaluated ℤ) → at ≡ last → Reach c (value_at at below loads h) r →
+      Reach c (value_at last below loads h) r
   ends_at c at last below loads h r e reach = subst (λ k. Reach c (value_at k below loads h) r) e reach
 
   value_by : (c : Flat) (below : List ℤ) (r : Evaluated ℤ) → lean_move p plan m input code c ≡ moved_as c (flat.valued p [] (flat_of c) below r) →
@@ -65,7 +67,8 @@ module _ (p : Program) (plan : Plan) (m : Marks) (input : List ℤ) (code : List
   behind_plains ops at rest from = subst (λ n. From code (at + n) rest) (plains_length ops) (later code at (plains ops) rest from)
 
   -- an op on the value that other ops give
-  then_op : (op : Op) (ops : List Op) (at : ℕ) (under last : List ℤ) (loads : List Load) (h : Held) (rest : List LeanOp) (r : Evaluated ℤ) (f : ℤ → Evaluated ℤ) →
+  then_op : (op : Op) (ops : List Op) (at : ℕ) (under last : List ℤ) (loads : List Load) (h : Held) (rest : List LeanOp) (r : Evaluated ℤ)
+      (f : ℤ → Evaluated ℤ) →
       ((v : WithLoads ℤ) → Gives (value_at (at + length ops) under loads h v) op last (f v.value)) → From code at (plains (ops ++ op ∷ []) ++ rest) →
       Reach (state at under loads h) (value_at (at + length ops) under loads h) r →
       Reach (state at under loads h) (value_at (at + length (ops ++ op ∷ [])) last loads h) (and_then r f)
@@ -80,7 +83,8 @@ module _ (p : Program) (plan : Plan) (m : Marks) (input : List ℤ) (code : List
   -- other ops on the value that the first ones give
   then_ops : (first_ops ops : List Op) (at : ℕ) (below : List ℤ) (loads : List Load) (h : Held) (r : Evaluated ℤ) (f : ℤ → Evaluated ℤ) →
       Reach (state at below loads h) (value_at (at + length first_ops) below loads h) r →
-      ((v : WithLoads ℤ) → Reach (value_at (at + length first_ops) below loads h v) (value_at (at + length first_ops + length ops) below (loads ++ v.loads) h) (f v.value)) →
+      ((v : WithLoads ℤ) → Reach (value_at (at + length first_ops) below loads h v) (value_at (at + length first_ops + length ops) below
+      (loads ++ v.loads) h) (f v.value)) →
       Reach (state at below loads h) (value_at (at + length (first_ops ++ ops)) below loads h) (and_then r f)
   then_ops first_ops ops at below loads h r f first second =
       let k = at + length first_ops in
@@ -89,10 +93,12 @@ module _ (p : Program) (plan : Plan) (m : Marks) (input : List ℤ) (code : List
       (reach_then p plan m input code (state at below loads h) k (k + length ops) below below loads h r f first second)
 
   -- a value that is decided without another op
-  decided_at : (c : Flat) (to last : ℕ) (below : List ℤ) (loads : List Load) (h : Held) (z : ℤ) → to ≡ last → lean_move p plan m input code c ≡ Goes (state to (z ∷ below) loads h) →
+  decided_at : (c : Flat) (to last : ℕ) (below : List ℤ) (loads : List Load) (h : Held) (z : ℤ) → to ≡ last →
+      lean_move p plan m input code c ≡ Goes (state to (z ∷ below) loads h) →
       Reach c (value_at last below loads h) (just z)
   decided_at c to last below loads h z e mv end onward =
-      let there : RunEnds p plan m input code (state last (z ∷ below) (loads ++ []) h) (end (record { value = z; loads = [] })) = onward (record { value = z; loads = [] }) refl in
+      let there : RunEnds p plan m input code (state last (z ∷ below) (loads ++ []) h) (end (record { value = z; loads = [] })) = onward
+      (record { value = z; loads = [] }) refl in
       let back : RunEnds p plan m input code (state last (z ∷ below) loads h) (end (record { value = z; loads = [] })) =
       subst (λ l. RunEnds p plan m input code (state last (z ∷ below) l h) (end (record { value = z; loads = [] }))) (append-nil loads) there in
       goes p plan m input code c (state last (z ∷ below) loads h) _ (mv ∙ ap (λ n. Goes (state n (z ∷ below) loads h)) e) back
@@ -116,7 +122,8 @@ module _ (p : Program) (plan : Plan) (m : Marks) (input : List ℤ) (code : List
   guard_and : (k : ℕ) (ops : List Op) (below : List ℤ) (loads : List Load) (h : Held) (rest : List LeanOp) (r : Evaluated ℤ) (v : WithLoads ℤ) →
       From code k (Plain (SkipIfZero (k + 1 + length ops + 1)) ∷ (plains (ops ++ Truth ∷ []) ++ rest)) →
       Reach (state (k + 1) below (loads ++ v.loads) h) (value_at (k + 1 + length ops) below (loads ++ v.loads) h) r →
-      Reach (value_at k below loads h v) (value_at (k + length (SkipIfZero (k + 1 + length ops + 1) ∷ (ops ++ Truth ∷ []))) below (loads ++ v.loads) h) (if is_zero v.value then just (pos 0) else and_then r truth)
+      Reach (value_at k below loads h v) (value_at (k + length (SkipIfZero (k + 1 + length ops + 1) ∷ (ops ++ Truth ∷ []))) below (loads ++ v.loads) h)
+      (if is_zero v.value then just (pos 0) else and_then r truth)
   guard_and k ops below loads h rest r v from second =
       let to = k + 1 + length ops + 1 in
       let c = value_at k below loads h v in
@@ -127,13 +134,15 @@ module _ (p : Program) (plan : Plan) (m : Marks) (input : List ℤ) (code : List
             rw q (decided_at c to _ below (loads ++ v.loads) h (pos 0) (past k (SkipIfZero to) ops) skips)
         | inr q ↦
             let goes_on : lean_move p plan m input code c ≡ Goes (state (k + 1) below (loads ++ v.loads) h) = mv ∙ rw q refl in
-            rw q (ends_at c _ _ below (loads ++ v.loads) h (and_then r truth) (past_right k (SkipIfZero to) ops) (right_side c k ops below (loads ++ v.loads) h rest r goes_on (next code k (Plain (SkipIfZero to)) _ from) second))
+            rw q (ends_at c _ _ below (loads ++ v.loads) h (and_then r truth) (past_right k (SkipIfZero to) ops)
+            (right_side c k ops below (loads ++ v.loads) h rest r goes_on (next code k (Plain (SkipIfZero to)) _ from) second))
       ]
 
   guard_or : (k : ℕ) (ops : List Op) (below : List ℤ) (loads : List Load) (h : Held) (rest : List LeanOp) (r : Evaluated ℤ) (v : WithLoads ℤ) →
       From code k (Plain (SkipIfNotZero (k + 1 + length ops + 1)) ∷ (plains (ops ++ Truth ∷ []) ++ rest)) →
       Reach (state (k + 1) below (loads ++ v.loads) h) (value_at (k + 1 + length ops) below (loads ++ v.loads) h) r →
-      Reach (value_at k below loads h v) (value_at (k + length (SkipIfNotZero (k + 1 + length ops + 1) ∷ (ops ++ Truth ∷ []))) below (loads ++ v.loads) h) (if is_zero v.value then and_then r truth else just (pos 1))
+      Reach (value_at k below loads h v) (value_at (k + length (SkipIfNotZero (k + 1 + length ops + 1) ∷ (ops ++ Truth ∷ []))) below (loads ++ v.loads) h)
+      (if is_zero v.value then and_then r truth else just (pos 1))
   guard_or k ops below loads h rest r v from second =
       let to = k + 1 + length ops + 1 in
       let c = value_at k below loads h v in
@@ -141,7 +150,8 @@ module _ (p : Program) (plan : Plan) (m : Marks) (input : List ℤ) (code : List
       elim (cases_Bool (is_zero v.value)) [
         | inl q ↦
             let goes_on : lean_move p plan m input code c ≡ Goes (state (k + 1) below (loads ++ v.loads) h) = mv ∙ rw q refl in
-            rw q (ends_at c _ _ below (loads ++ v.loads) h (and_then r truth) (past_right k (SkipIfNotZero to) ops) (right_side c k ops below (loads ++ v.loads) h rest r goes_on (next code k (Plain (SkipIfNotZero to)) _ from) second))
+            rw q (ends_at c _ _ below (loads ++ v.loads) h (and_then r truth) (past_right k (SkipIfNotZero to) ops)
+            (right_side c k ops below (loads ++ v.loads) h rest r goes_on (next code k (Plain (SkipIfNotZero to)) _ from) second))
         | inr q ↦
             let skips : lean_move p plan m input code c ≡ Goes (state to (pos 1 ∷ below) (loads ++ v.loads) h) = mv ∙ rw q refl in
             rw q (decided_at c to _ below (loads ++ v.loads) h (pos 1) (past k (SkipIfNotZero to) ops) skips)
@@ -172,7 +182,8 @@ module _ (p : Program) (plan : Plan) (m : Marks) (input : List ℤ) (code : List
       let there : From code k (plains ops ++ rest) = behind_plains ca at (plains ops ++ rest) here in
       then_ops ca ops at below loads h (eval p input h.cells a) (λ x. and_then (eval p input h.cells b) (λ y. without_loads (binary_result op x y)))
       (expr_runs a at below loads h (plains ops ++ rest) here)
-      (λ v. then_op (Binary op) cb k (v.value ∷ below) below (loads ++ v.loads) h rest (eval p input h.cells b) (λ y. without_loads (binary_result op v.value y)) (λ w. refl) there
+      (λ v. then_op (Binary op) cb k (v.value ∷ below) below (loads ++ v.loads) h rest (eval p input h.cells b)
+      (λ y. without_loads (binary_result op v.value y)) (λ w. refl) there
       (expr_runs b k (v.value ∷ below) (loads ++ v.loads) h (Plain (Binary op) ∷ rest) (two_parts cb (Binary op ∷ []) k rest there)))
   expr_runs (expr.And' _ (more_of-Expr a end_of-Expr) _ (more_of-Expr b end_of-Expr)) at below loads h rest from =
       let ca = expr_code p a at in
@@ -182,7 +193,8 @@ module _ (p : Program) (plan : Plan) (m : Marks) (input : List ℤ) (code : List
       let ops = skip ∷ (cb ++ Truth ∷ []) in
       let here : From code at (plains ca ++ (plains ops ++ rest)) = two_parts ca ops at rest from in
       let there : From code k (plains ops ++ rest) = behind_plains ca at (plains ops ++ rest) here in
-      let right : From code (k + 1) (plains cb ++ (Plain Truth ∷ rest)) = two_parts cb (Truth ∷ []) (k + 1) rest (next code k (Plain skip) (plains (cb ++ Truth ∷ []) ++ rest) there) in
+      let right : From code (k + 1) (plains cb ++ (Plain Truth ∷ rest)) = two_parts cb (Truth ∷ []) (k + 1) rest
+      (next code k (Plain skip) (plains (cb ++ Truth ∷ []) ++ rest) there) in
       then_ops ca ops at below loads h (eval p input h.cells a) (λ x. if is_zero x then just (pos 0) else and_then (eval p input h.cells b) truth)
       (expr_runs a at below loads h (plains ops ++ rest) here)
       (λ v. guard_and k cb below loads h rest (eval p input h.cells b) v there (expr_runs b (k + 1) below (loads ++ v.loads) h (Plain Truth ∷ rest) right))
@@ -194,7 +206,8 @@ module _ (p : Program) (plan : Plan) (m : Marks) (input : List ℤ) (code : List
       let ops = skip ∷ (cb ++ Truth ∷ []) in
       let here : From code at (plains ca ++ (plains ops ++ rest)) = two_parts ca ops at rest from in
       let there : From code k (plains ops ++ rest) = behind_plains ca at (plains ops ++ rest) here in
-      let right : From code (k + 1) (plains cb ++ (Plain Truth ∷ rest)) = two_parts cb (Truth ∷ []) (k + 1) rest (next code k (Plain skip) (plains (cb ++ Truth ∷ []) ++ rest) there) in
+      let right : From code (k + 1) (plains cb ++ (Plain Truth ∷ rest)) = two_parts cb (Truth ∷ []) (k + 1) rest
+      (next code k (Plain skip) (plains (cb ++ Truth ∷ []) ++ rest) there) in
       then_ops ca ops at below loads h (eval p input h.cells a) (λ x. if is_zero x then and_then (eval p input h.cells b) truth else just (pos 1))
       (expr_runs a at below loads h (plains ops ++ rest) here)
       (λ v. guard_or k cb below loads h rest (eval p input h.cells b) v there (expr_runs b (k + 1) below (loads ++ v.loads) h (Plain Truth ∷ rest) right))

@@ -1,22 +1,24 @@
 -- No block begins at a number that is no site of the region.
-use Rattle.dp_semantics.proofs.Names.{◌≡◌, refl, sym, ap, ◌∙◌, ℕ, suc, ◌+◌, ◌<◌, ◌≤◌, ◌==◌, ◌||◌, if◌then◌else◌, Bool, true, false, List, [], ◌∷◌, ◌++◌, length, map, arith, nat_lt, eq-eqb, eqb-true, ne_eqb, or_parts, or_from, Option, None, flat_map, Stmt, Row_of-Stmt, end_of-Stmt, more_of-Stmt, out-Stmt, Stmt-F, Program, Plan, site_of, Access, accesses, accesses_in}
+use Rattle.dp_semantics.proofs.Names.{◌≡◌, refl, sym, ap, ◌∙◌, ℕ, suc, ◌+◌, ◌<◌, ◌≤◌, ◌==◌, ◌||◌, if◌then◌else◌, Bool, true, false, List, [], ◌∷◌, ◌++◌, length}
+use Rattle.dp_semantics.proofs.Names.{map, arith, nat_lt, eq-eqb, eqb-true, ne_eqb, or_parts, or_from, Option, None, flat_map, Stmt, Row_of-Stmt, end_of-Stmt}
+use Rattle.dp_semantics.proofs.Names.{more_of-Stmt, out-Stmt, Stmt-F, Program, Plan, site_of, Access, accesses, accesses_in}
 use Rattle.dp_tree.specs.declared.Stmt.TheVariants as tree
 use Rattle.dp_tree.specs.declared.Stmt.TheViews.{outs-Assign, outs-Store, outs-If', outs-While'}
 use Rattle.dp_tree.specs.Statements.{listed}
 use Rattle.dp_plan.specs.Checked.{has_site}
-use Rattle.dp_plan.specs.Written.{site_in}
+use Rattle.dp_plan.specs.Written.{access_site}
 use Rattle.dp_plan.proofs.Ascent.{Ascends}
 use Rattle.dp_net.specs.BlockText.{own_site, is_quiet_own, block_from, run_behind, site_past, sought_inside, sought}
 use Rattle.dp_net.specs.Hidden.{block_in}
 use Rattle.dp_lean.proofs.Once.{has_join}
 
 -- a site of these goes up from k on
-pub none_below : (k f : ℕ) (all : List Access) → Ascends k (map site_in all) → f < k → has_site f all ≡ false
+pub none_below : (k f : ℕ) (all : List Access) → Ascends k (map access_site all) → f < k → has_site f all ≡ false
 none_below k f [] up low = refl
 none_below k f (a ∷ all) up low =
     or_from (a.site == f) (has_site f all) (ne_eqb a.site f (λ e. omega (arith, e, up.0, low))) (none_below (suc k) f all up.1 (omega (arith, low)))
 
-pub none_past : (k f : ℕ) (all : List Access) → Ascends k (map site_in all) → k + length all ≤ f → has_site f all ≡ false
+pub none_past : (k f : ℕ) (all : List Access) → Ascends k (map access_site all) → k + length all ≤ f → has_site f all ≡ false
 none_past k f [] up high = refl
 none_past k f (a ∷ all) up high =
     or_from (a.site == f) (has_site f all) (ne_eqb a.site f (λ e. omega (arith, e, up.0, high))) (none_past (suc k) f all up.1 (omega (arith, high)))
@@ -42,13 +44,16 @@ module _ (p : Program) (plan : Plan) (pays : List Stmt → Bool) (f : ℕ) where
   quiet_has (tree.Break site cond) q own = absurd (cc)
   quiet_has (tree.Call g line args) q own = absurd (cc)
 
-  from_none : (before : Option ℕ) (x : Stmt) (rest : List Stmt) → has_site f (accesses x) ≡ false → own_site p plan x ≡ f → block_from p plan pays before x rest ≡ []
-  from_none before x rest none own = either_way (is_quiet_own p plan x) _ [] (λ q. let clash : true ≡ false = sym (quiet_has x q own) ∙ none in absurd (cc clash)) (λ q. refl)
+  from_none : (before : Option ℕ) (x : Stmt) (rest : List Stmt) → has_site f (accesses x) ≡ false → own_site p plan x ≡ f →
+      block_from p plan pays before x rest ≡ []
+  from_none before x rest none own =
+      either_way (is_quiet_own p plan x) _ [] (λ q. let clash : true ≡ false = sym (quiet_has x q own) ∙ none in absurd (cc clash)) (λ q. refl)
 
   mutual
     inside_none : (x : Stmt) → has_site f (accesses x) ≡ false → sought_inside p plan pays f x ≡ []
     inside_none (tree.If' site cond _ a _ b) none =
-        let parts = or_parts (has_site f (accesses_in a)) (has_site f (accesses_in b)) (sym (has_join f (accesses_in a) (accesses_in b)) ∙ (or_parts (site.0 == f) (has_site f (accesses_in a ++ accesses_in b)) none).1) in
+        let parts = or_parts (has_site f (accesses_in a)) (has_site f (accesses_in b)) (sym (has_join f (accesses_in a) (accesses_in b))
+        ∙ (or_parts (site.0 == f) (has_site f (accesses_in a ++ accesses_in b)) none).1) in
         either_way (nat_lt f (site.0 + 1 + length (accesses_in a))) _ _ (λ e. row_none None a parts.0) (λ e. row_none None b parts.1)
     inside_none (tree.While' site cond _ a) none = row_none None a (or_parts (site.0 == f) (has_site f (accesses_in a)) none).1
     inside_none (tree.Region' r site cond _ a) none = row_none None a (or_parts (site.0 == f) (has_site f (accesses_in a)) none).1

@@ -1,11 +1,13 @@
 -- The walk over the plan's region makes the code of each stage's lean text.
-use Rattle.dp_semantics.proofs.Names.{◌≡◌, refl, sym, ap, ◌∙◌, subst, append-nil, arith, eq-eqb, ℕ, ◌-◌, ◌<◌, ◌≤◌, nat_le, if◌then◌else◌, Bool, true, List, [], ◌∷◌, ◌++◌, length, map, Stmt, out-Stmt, Stmt-F, Region, Program, Plan, Access, accesses, site_of, stage_of, first_site, region_statement, region_accesses, project, project_all, fits_plan, last}
+use Rattle.dp_semantics.proofs.Names.{◌≡◌, refl, sym, ap, ◌∙◌, subst, append-nil, arith, eq-eqb, ℕ, ◌-◌, ◌<◌, ◌≤◌, nat_le, if◌then◌else◌, Bool, true, List, []}
+use Rattle.dp_semantics.proofs.Names.{◌∷◌, ◌++◌, length, map, Stmt, out-Stmt, Stmt-F, Region, Program, Plan, Access, accesses, site_of, stage_of, first_site}
+use Rattle.dp_semantics.proofs.Names.{region_statement, region_accesses, project, project_all, fits_plan, last}
 use Rattle.std.proofs.Common.{slice_index}
 use Rattle.dp_tree.specs.declared.Stmt.TheVariants as tree
 use Rattle.dp_tree.specs.declared.Stmt.TheVariants.{outs-If}
 use Rattle.dp_tree.specs.Inlined.{IsInlined}
 use Rattle.dp_plan.specs.CheckedTable.{IsTabled}
-use Rattle.dp_plan.specs.Written.{site_in}
+use Rattle.dp_plan.specs.Written.{access_site}
 use Rattle.dp_plan.proofs.Ascent.{Ascends}
 use Rattle.dp_semantics.proofs.Each.{Each, each_map}
 use Rattle.dp_semantics.proofs.Heads.{accesses_all, accesses_at, accesses_out, head_access, project_at, project_out}
@@ -39,7 +41,7 @@ module _ (p : Program) (plan : Plan) (inlined : IsInlined p) (fits : fits_plan p
   pub ok : Accepted p plan
   ok = accepted p plan fits
 
-  up : (k : ℕ) × Ascends k (map site_in (region_accesses p plan))
+  up : (k : ℕ) × Ascends k (map access_site (region_accesses p plan))
   up = numbered p plan inlined ok
 
   these : region_accesses p plan ≡ head_access (Region plan.region ok.site ok.cond ok.body) ∷ accesses_all ok.body
@@ -47,15 +49,18 @@ module _ (p : Program) (plan : Plan) (inlined : IsInlined p) (fits : fits_plan p
 
   -- they go up from the region's first one on
   first_is : first_site p plan ≡ up.0
-  first_is = ok.first ∙ (subst (λ (all : List Access). Ascends up.0 (map site_in all)) these up.1).0
+  first_is = ok.first ∙ (subst (λ (all : List Access). Ascends up.0 (map access_site all)) these up.1).0
 
-  pub ascends : Ascends (first_site p plan) (map site_in (region_accesses p plan))
-  ascends = subst (λ (k : ℕ). Ascends k (map site_in (region_accesses p plan))) (sym first_is) up.1
+  pub ascends : Ascends (first_site p plan) (map access_site (region_accesses p plan))
+  ascends = subst (λ (k : ℕ). Ascends k (map access_site (region_accesses p plan))) (sym first_is) up.1
 
-  counted : (f : ℕ) → (if nat_le (first_site p plan) f then slice_index (map (λ (a : Access). length (m.block_at a.site)) (region_accesses p plan)) (f - first_site p plan) else 0) ≡ length (m.block_at f)
+  counted : (f : ℕ) → (if nat_le (first_site p plan) f then slice_index (map (λ (a : Access). length (m.block_at a.site)) (region_accesses p plan))
+      (f - first_site p plan) else 0) ≡ length (m.block_at f)
   counted f = by_number (λ n. length (m.block_at n)) (region_accesses p plan) (first_site p plan) f ascends
-      (λ low. ap length (block_none p plan (pays_off p plan) f (region_statement p plan) (none_below (first_site p plan) f (region_accesses p plan) ascends low)))
-      (λ high. ap length (block_none p plan (pays_off p plan) f (region_statement p plan) (none_past (first_site p plan) f (region_accesses p plan) ascends high)))
+      (λ low. ap length (block_none p plan (pays_off p plan) f (region_statement p plan)
+      (none_below (first_site p plan) f (region_accesses p plan) ascends low)))
+      (λ high. ap length (block_none p plan (pays_off p plan) f (region_statement p plan)
+      (none_past (first_site p plan) f (region_accesses p plan) ascends high)))
 
   pub own_none : m.block_at (site_of (out-Stmt ok.statement)).0 ≡ []
   own_none =
@@ -67,7 +72,8 @@ module _ (p : Program) (plan : Plan) (inlined : IsInlined p) (fits : fits_plan p
   sound_body = (subst (λ (all : List Access). Each (Sound p plan) all) these ok.sound).1
 
   whole_body : project_all p plan (last plan) ok.body ≡ ok.body
-  whole_body = whole_all p plan (last plan) ok.body ok.well (each_map (Sound p plan) (λ a. stage_of p plan a.site ≤ last plan) (λ a h. let e = h.early in omega (arith, e)) (accesses_all ok.body) sound_body)
+  whole_body = whole_all p plan (last plan) ok.body ok.well (each_map (Sound p plan) (λ a. stage_of p plan a.site ≤ last plan) (λ a h. let e = h.early in
+      omega (arith, e)) (accesses_all ok.body) sound_body)
 
   text : Text m (project_all p plan (last plan) (region_statement p plan))
   text = (quieted (some_epoch p plan ok up.0 up.1 m (all_sound p plan) []) fits up.0 up.1 (pays_off p plan)).texts (last plan)
@@ -76,12 +82,15 @@ module _ (p : Program) (plan : Plan) (inlined : IsInlined p) (fits : fits_plan p
   turn xs = tree.If ok.site ok.cond xs []
 
   turn_is : project_all p plan (last plan) (region_statement p plan) ≡ turn (project_all p plan (last plan) ok.body) ∷ []
-  turn_is = ap (project_all p plan (last plan)) ok.region ∙ append-nil (project p plan (last plan) ok.statement) ∙ project_out p plan (last plan) ok.statement ∙ ap (project_at p plan (last plan)) ok.is
+  turn_is = ap (project_all p plan (last plan)) ok.region ∙ append-nil (project p plan (last plan) ok.statement) ∙ project_out p plan (last plan) ok.statement
+      ∙ ap (project_at p plan (last plan)) ok.is
 
   pub body_text : Text m ok.body
   body_text = subst (Text m) whole_body
-      (first_text m (turn (project_all p plan (last plan) ok.body)) [] ok.site ok.cond (project_all p plan (last plan) ok.body) [] (outs-If ok.site ok.cond _ [])
-      (ap (λ (h : Stmt-F Stmt). m.block_at (site_of h).0) (outs-If ok.site ok.cond (project_all p plan (last plan) ok.body) []) ∙ ap (λ (h : Stmt-F Stmt). m.block_at (site_of h).0) (sym ok.is) ∙ own_none)
+      (first_text m (turn (project_all p plan (last plan) ok.body)) [] ok.site ok.cond (project_all p plan (last plan) ok.body) []
+      (outs-If ok.site ok.cond _ [])
+      (ap (λ (h : Stmt-F Stmt). m.block_at (site_of h).0) (outs-If ok.site ok.cond (project_all p plan (last plan) ok.body) [])
+      ∙ ap (λ (h : Stmt-F Stmt). m.block_at (site_of h).0) (sym ok.is) ∙ own_none)
       (subst (Text m) turn_is text))
 
   module _ (tabled : IsTabled p plan) (tables : LeanTables) (known : AreTablesOf p plan tables) (s : ℕ) (low : 0 < s) (high : s ≤ last plan) where
@@ -103,4 +112,5 @@ module _ (p : Program) (plan : Plan) (inlined : IsInlined p) (fits : fits_plan p
     walked_code =
         ap (λ ops. ops ++ Plain op.End ∷ []) (ap (λ (xs : List Stmt). regions p plan s k xs 0) ok.region ∙ append-nil (part p plan s k ok.statement 0)
         ∙ sym (piece_alone p plan s m one 0)
-        ∙ ap (λ (xs : List Stmt). Rattle.dp_lean_code.proofs.WalkedPieces.lean_of p plan s m xs 0) (sym (append-nil (project p plan s ok.statement)) ∙ ap (project_all p plan s) (sym ok.region)))
+        ∙ ap (λ (xs : List Stmt). Rattle.dp_lean_code.proofs.WalkedPieces.lean_of p plan s m xs 0) (sym (append-nil (project p plan s ok.statement))
+        ∙ ap (project_all p plan s) (sym ok.region)))

@@ -1,5 +1,6 @@
 -- The code of the plan's region among the program's statements.
-use Rattle.dp_semantics.proofs.Names.{◌≡◌, refl, sym, ap, ◌∙◌, append_assoc, append-nil, length-append, ℕ, ◌+◌, ◌<◌, if◌then◌else◌, Bool, true, false, List, [], ◌∷◌, ◌++◌, length, drop, get_or, filter, Stmt, Program, Plan, is_region_at}
+use Rattle.dp_semantics.proofs.Names.{◌≡◌, refl, sym, ap, ◌∙◌, append_assoc, append-nil, length-append, ℕ, ◌+◌, ◌<◌, if◌then◌else◌, Bool, true, false, List, []}
+use Rattle.dp_semantics.proofs.Names.{◌∷◌, ◌++◌, length, drop, get_or, filter, Stmt, Program, Plan, is_region_at}
 use Rattle.dp_room.proofs.ListLemmas.{next_of}
 use Rattle.dp_plan.specs.Walks.{is_region_of}
 use Rattle.dp_code.specs.declared.Op.TheVariants as op
@@ -18,7 +19,8 @@ module _ (p : Program) (plan : Plan) (s : ℕ) (k : Known) where
   region_case x xs at true e = rw e refl
   region_case x xs at false e = rw e refl
 
-  pub region_more : (xs : List Stmt) (i : ℕ) (x : Stmt) (ops new whole : List LeanOp) → ops ++ in_region (drop i xs) (length ops) ≡ whole → i < length xs → x ≡ get_or xs i x →
+  pub region_more : (xs : List Stmt) (i : ℕ) (x : Stmt) (ops new whole : List LeanOp) → ops ++ in_region (drop i xs) (length ops) ≡ whole →
+      i < length xs → x ≡ get_or xs i x →
       is_region_of plan.region x ≡ true → new ≡ ops ++ part p plan s k x (length ops) → new ++ in_region (drop (i + 1) xs) (length new) ≡ whole
   unfolding is_region_of
   region_more xs i x ops new whole kept h is e new_is =
@@ -27,7 +29,8 @@ module _ (p : Program) (plan : Plan) (s : ℕ) (k : Known) where
       ap (λ n. new ++ in_region (drop (i + 1) xs) n) (ap length new_is ∙ length-append ops here) ∙ ap (λ ys. ys ++ rest) new_is ∙ append_assoc ops here rest
       ∙ ap (λ ys. ops ++ ys) (sym (ap (λ ys. in_region ys (length ops)) (next_of xs i x h is) ∙ region_case x (drop (i + 1) xs) (length ops) true e)) ∙ kept
 
-  pub region_skip : (xs : List Stmt) (i : ℕ) (x : Stmt) (ops whole : List LeanOp) → ops ++ in_region (drop i xs) (length ops) ≡ whole → i < length xs → x ≡ get_or xs i x →
+  pub region_skip : (xs : List Stmt) (i : ℕ) (x : Stmt) (ops whole : List LeanOp) → ops ++ in_region (drop i xs) (length ops) ≡ whole →
+      i < length xs → x ≡ get_or xs i x →
       is_region_of plan.region x ≡ false → ops ++ in_region (drop (i + 1) xs) (length ops) ≡ whole
   unfolding is_region_of
   region_skip xs i x ops whole kept h is e =

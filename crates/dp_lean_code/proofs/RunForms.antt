@@ -1,5 +1,6 @@
 -- Quiet statements, and those that gain, by form.
-use Rattle.dp_semantics.proofs.Names.{opened_statement, ◌≡◌, refl, ap, ◌∙◌, ℕ, ◌&&◌, Bool, true, false, ℤ, List, [], ◌∷◌, ◌++◌, list_all, Option, SiteId, Expr, Stmt, Program, Plan, hidden-the_row-Stmt-0, first_cell, has_cell}
+use Rattle.dp_semantics.proofs.Names.{opened_statement, ◌≡◌, refl, ap, ◌∙◌, ℕ, ◌&&◌, Bool, true, false, ℤ, List, [], ◌∷◌, ◌++◌, list_all, Option, SiteId, Expr}
+use Rattle.dp_semantics.proofs.Names.{Stmt, Program, Plan, hidden-the_row-Stmt-0, first_cell, has_cell}
 use Rattle.std.proofs.Math.Bool.{and-true}
 use Rattle.dp_base.specs.declared.BinOp.{BinOp}
 use Rattle.dp_base.specs.declared.UnOp.{UnOp}
@@ -65,7 +66,8 @@ module _ (p : Program) (plan : Plan) where
     inner : (xs : List Stmt) → everywhere_in (quiet_here p plan t) (hidden-the_row-Stmt-0 xs) ≡ list_all (everywhere (quiet_here p plan t)) xs
     inner xs = everywhere_hidden (quiet_here p plan t) xs
 
-    pub quiet-Assign : (site : SiteId) (x : VarId) (e : Expr) → quiet_in p plan t (tree.Assign site x e) ≡ (quiet_site p plan t site.0 && (known_in p plan e && has_cell p x.0))
+    pub quiet-Assign : (site : SiteId) (x : VarId) (e : Expr) →
+        quiet_in p plan t (tree.Assign site x e) ≡ (quiet_site p plan t site.0 && (known_in p plan e && has_cell p x.0))
     unfolding quiet_in known_in
     quiet-Assign site x e = refl
 

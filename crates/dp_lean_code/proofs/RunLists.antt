@@ -1,5 +1,6 @@
 -- Quiet statements and runs of them, found one statement after the other.
-use Rattle.dp_semantics.proofs.Names.{◌≡◌, sym, ap, ◌∙◌, arith, ℕ, suc, ◌+◌, ◌<◌, ◌≤◌, ◌==◌, ◌&&◌, ◌||◌, if◌then◌else◌, Bool, true, false, List, [], ◌∷◌, length, drop, take, get_or, list_all, Option, Stmt, Program, Plan, first_cell}
+use Rattle.dp_semantics.proofs.Names.{◌≡◌, sym, ap, ◌∙◌, arith, ℕ, suc, ◌+◌, ◌<◌, ◌≤◌, ◌==◌, ◌&&◌, ◌||◌, if◌then◌else◌, Bool, true, false, List, [], ◌∷◌}
+use Rattle.dp_semantics.proofs.Names.{length, drop, take, get_or, list_all, Option, Stmt, Program, Plan, first_cell}
 use Rattle.std.proofs.Common.{add-one, drop-cons}
 use Rattle.std.proofs.Math.ListN.{drop_of_length-le}
 use Rattle.dp_tree.specs.Statements.{everywhere}
@@ -50,7 +51,8 @@ module _ (p : Program) (plan : Plan) (t : ℕ) where
         -- .. or goes on behind it
         pub run_on : quiet_in p plan t x ≡ true → i + 1 + length (run_in p plan t (drop (i + 1) all)) ≡ length (run_in p plan t all)
         run_on e =
-            let more : run_in p plan t (drop i all) ≡ x ∷ run_in p plan t (drop (i + 1) all) = run_next ∙ ap (λ (c : Bool). if c then x ∷ run_in p plan t (drop (i + 1) all) else []) e in
+            let more : run_in p plan t (drop i all) ≡ x ∷ run_in p plan t (drop (i + 1) all) = run_next
+            ∙ ap (λ (c : Bool). if c then x ∷ run_in p plan t (drop (i + 1) all) else []) e in
             let n = ap length more in omega (arith, n, kept)
 
     pub quiet_all : all_quiet_in p plan t (drop i all) ≡ all_quiet_in p plan t all → length all ≤ i → true ≡ all_quiet_in p plan t all
@@ -64,7 +66,8 @@ module _ (p : Program) (plan : Plan) (t : ℕ) where
   -- a variable whose cell is hidden
   module _ (c : ℕ) (homes : List (Option ℕ)) (i : ℕ) (kept : hides_from p plan t c i (drop i homes) ≡ hides_from p plan t c 0 homes) where
     module _ (d : Option ℕ) (h : i < length homes) where
-      hides_next : hides_from p plan t c i (drop i homes) ≡ ((is_home t (get_or homes i d) && (first_cell p (record { 0 = i }) == c)) || hides_from p plan t c (i + 1) (drop (i + 1) homes))
+      hides_next : hides_from p plan t c i (drop i homes) ≡ ((is_home t (get_or homes i d) && (first_cell p (record { 0 = i }) == c)) || hides_from p plan t c
+          (i + 1) (drop (i + 1) homes))
       unfolding hides_from
       hides_next =
           let cons : drop i homes ≡ get_or homes i d ∷ drop (i + 1) homes = rw add-one (drop-cons homes i d h) in
@@ -75,7 +78,8 @@ module _ (p : Program) (plan : Plan) (t : ℕ) where
           sym (ap (λ b. (b && (first_cell p (record { 0 = i }) == c)) || hides_from p plan t c (i + 1) (drop (i + 1) homes)) e
           ∙ ap (λ b. b || hides_from p plan t c (i + 1) (drop (i + 1) homes)) f) ∙ sym hides_next ∙ kept
 
-      pub hides_past : (is_home t (get_or homes i d) && (first_cell p (record { 0 = i }) == c)) ≡ false → hides_from p plan t c (i + 1) (drop (i + 1) homes) ≡ hides_from p plan t c 0 homes
+      pub hides_past : (is_home t (get_or homes i d) && (first_cell p (record { 0 = i }) == c)) ≡ false →
+          hides_from p plan t c (i + 1) (drop (i + 1) homes) ≡ hides_from p plan t c 0 homes
       hides_past e = sym (ap (λ b. b || hides_from p plan t c (i + 1) (drop (i + 1) homes)) e) ∙ sym hides_next ∙ kept
 
     pub hides_over : length homes ≤ i → false ≡ hides_from p plan t c 0 homes
@@ -83,13 +87,15 @@ module _ (p : Program) (plan : Plan) (t : ℕ) where
     hides_over h = sym (ap (λ hs. hides_from p plan t c i hs) (drop_of_length-le homes h)) ∙ kept
 
   -- the block in front
-  module _ (homes : List (Option ℕ)) (before : Option ℕ) (all block : List Stmt) (length_of : ℕ) (joined pays : Bool) (joins_is : joined ≡ joins t before) (length_is : length_of ≡ length (run_in p plan t all))
+  module _ (homes : List (Option ℕ)) (before : Option ℕ) (all block : List Stmt) (length_of : ℕ) (joined pays : Bool) (joins_is : joined ≡ joins t before)
+      (length_is : length_of ≡ length (run_in p plan t all))
       (block_is : block ≡ take length_of all) (pays_is : pays ≡ pays_in p plan homes t block) (apart : joined ≡ false) where
     paid : pays_in p plan homes t (run_in p plan t all) ≡ pays
     paid = sym (pays_is ∙ ap (λ xs. pays_in p plan homes t xs) (block_is ∙ ap (λ n. take n all) length_is ∙ run_taken p plan t all))
 
     counted : (if pays then length (run_in p plan t all) else 0) ≡ count_in p plan homes before t all
-    counted = sym (ap (λ (c : Bool). if c then 0 else if pays_in p plan homes t (run_in p plan t all) then length (run_in p plan t all) else 0) (sym joins_is ∙ apart)
+    counted = sym (ap (λ (c : Bool). if c then 0 else if pays_in p plan homes t (run_in p plan t all) then length (run_in p plan t all) else 0)
+        (sym joins_is ∙ apart)
         ∙ ap (λ (c : Bool). if c then length (run_in p plan t all) else 0) paid)
 
     pub count_none : pays ≡ false → 0 ≡ count_in p plan homes before t all

@@ -1,5 +1,6 @@
 -- What the code finds of quiet statements and their runs is what the definitions say.
-use Rattle.dp_semantics.proofs.Names.{◌≡◌, refl, sym, ap, ◌∙◌, ℕ, ◌==◌, not, ◌&&◌, if◌then◌else◌, Bool, true, false, List, [], ◌∷◌, ◌++◌, length, map, list_all, list_any, Option, Some, None, Stmt, Program, Plan, stage_of, first_site, region_accesses, has_cell}
+use Rattle.dp_semantics.proofs.Names.{◌≡◌, refl, sym, ap, ◌∙◌, ℕ, ◌==◌, not, ◌&&◌, if◌then◌else◌, Bool, true, false, List, [], ◌∷◌, ◌++◌, length, map, list_all}
+use Rattle.dp_semantics.proofs.Names.{list_any, Option, Some, None, Stmt, Program, Plan, stage_of, first_site, region_accesses, has_cell}
 use Rattle.dp_tree.specs.declared.Stmt.TheVariants as tree
 use Rattle.dp_tree.specs.Numbering.{numbers_from}
 use Rattle.dp_tree.specs.Statements.{everywhere}
@@ -16,7 +17,8 @@ unfoldable use Rattle.dp_lean_code.specs.steps.Runs.{quiet_in, run_in, hides_fro
 
 module _ (p : Program) (plan : Plan) (tabled : IsTabled p plan) where
   site_same : (t site : ℕ) → quiet_site p plan t site ≡ is_quiet_site p plan t site
-  site_same t site = ap (λ c. (stage_of p plan site == t) && (not c && (not (site == first_site p plan) && not (list_any (is_assumed_at site) plan.assume)))) (tabled site)
+  site_same t site = ap (λ c. (stage_of p plan site == t) && (not c && (not (site == first_site p plan) && not (list_any (is_assumed_at site) plan.assume))))
+      (tabled site)
 
   quiet_same : (t : ℕ) (x : Stmt) → quiet_here p plan t x ≡ quiet_at p plan t x
   quiet_same t (tree.Assign site x e) = ap (λ c. c && (list_all (has_cell p) (loaded_by e) && stores_known p (Some x.0))) (site_same t site.0)
@@ -35,7 +37,8 @@ module _ (p : Program) (plan : Plan) (tabled : IsTabled p plan) where
   run_is : (t : ℕ) (xs : List Stmt) → run_in p plan t xs ≡ run p plan t xs
   unfolding run_in
   run_is t [] = refl
-  run_is t (x ∷ xs) = ap (λ (c : Bool). if c then x ∷ run_in p plan t xs else []) (quiet_is t x) ∙ ap (λ (ys : List Stmt). if is_quiet p plan t x then x ∷ ys else []) (run_is t xs)
+  run_is t (x ∷ xs) = ap (λ (c : Bool). if c then x ∷ run_in p plan t xs else []) (quiet_is t x)
+      ∙ ap (λ (ys : List Stmt). if is_quiet p plan t x then x ∷ ys else []) (run_is t xs)
 
   module _ (homes : List (Option ℕ)) (homes_are : homes ≡ map (private_home p plan (region_accesses p plan)) (numbers_from 0 (length p.vars))) where
     gains_is : (t : ℕ) (x : Stmt) → gains_in p plan homes t x ≡ gains p (is_hidden p plan t) x
@@ -60,7 +63,8 @@ module _ (p : Program) (plan : Plan) (tabled : IsTabled p plan) where
         ∙ ap (λ (xs : List Stmt). if joins_run p plan t before then 0 else if pays_in p plan homes t xs then length xs else 0) front
         ∙ ap (λ c. if joins_run p plan t before then 0 else if c then length (x ∷ run p plan t rest) else 0) (pays_is x (run p plan t rest))
         ∙ by (joins_run p plan t before) (pays_off p plan (x ∷ run p plan t rest))
-        ∙ sym (ap (λ (c : Bool). length (if c then (if joins_run p plan t before then [] else if_pays p plan (pays_off p plan) (x ∷ run p plan t rest)) else [])) q)
+        ∙ sym (ap (λ (c : Bool). length
+        (if c then (if joins_run p plan t before then [] else if_pays p plan (pays_off p plan) (x ∷ run p plan t rest)) else [])) q)
       where
         by : (c d : Bool) → (if c then 0 else if d then length (x ∷ run p plan (own_stage p plan x) rest) else 0)
             ≡ length (if c then [] else (if d then x ∷ run p plan (own_stage p plan x) rest else []))

@@ -1,5 +1,6 @@
 -- The code of an own block's statements, by form and one after the other.
-use Rattle.dp_semantics.proofs.Names.{opened_statement, hidden-the_row-Stmt-0, ◌≡◌, refl, sym, ap, ◌∙◌, append_assoc, append-nil, length-append, ℕ, zero, suc, ◌+◌, ◌<◌, List, [], ◌∷◌, ◌++◌, length, drop, get_or, SiteId, Expr, Stmt, Program, Plan}
+use Rattle.dp_semantics.proofs.Names.{opened_statement, hidden-the_row-Stmt-0, ◌≡◌, refl, sym, ap, ◌∙◌, append_assoc, append-nil, length-append, ℕ, zero, suc}
+use Rattle.dp_semantics.proofs.Names.{◌+◌, ◌<◌, List, [], ◌∷◌, ◌++◌, length, drop, get_or, SiteId, Expr, Stmt, Program, Plan}
 use Rattle.std.proofs.Common.{add-one, drop-cons}
 use Rattle.dp_base.specs.declared.VarId.{VarId}
 use Rattle.dp_tree.specs.declared.Stmt.TheVariants as tree
@@ -15,7 +16,8 @@ module _ (p : Program) (plan : Plan) (s : ℕ) where
   abbrev none : SiteId → List Stmt → ℕ → List LeanOp
   none site block at = []
 
-  hidden : (xs : List Stmt) (at : ℕ) → row_code p plan s (no_blocks p plan s) none zero (hidden-the_row-Stmt-0 xs) at ≡ list_code p plan s (no_blocks p plan s) none zero xs at
+  hidden : (xs : List Stmt) (at : ℕ) → row_code p plan s (no_blocks p plan s) none zero (hidden-the_row-Stmt-0 xs) at ≡ list_code p plan s
+      (no_blocks p plan s) none zero xs at
   hidden xs at = row_hidden p plan s (no_blocks p plan s) none (λ f y ys is. absurd (cc is)) zero xs at
 
   pub silent-Assign : (site : SiteId) (x : VarId) (e : Expr) (at : ℕ) → silent_part p plan s (tree.Assign site x e) at ≡ assign_code p plan s site x e at
@@ -42,11 +44,13 @@ module _ (p : Program) (plan : Plan) (s : ℕ) where
   unfolding silent_part stmt_code
   silent-Call f line args at = refl
 
-  pub silent-If : (site : SiteId) (cond : Expr) (a b : List Stmt) (at : ℕ) → silent_part p plan s (tree.If site cond a b) at ≡ silent_if p plan s site cond a b at
+  pub silent-If : (site : SiteId) (cond : Expr) (a b : List Stmt) (at : ℕ) → silent_part p plan s (tree.If site cond a b) at ≡ silent_if p
+      plan s site cond a b at
   unfolding silent_part silent_parts stmt_code opened_statement
   silent-If site cond a b at = λ i. tested p plan s site cond (choice (branch p plan s site) (λ k. hidden a k i) (λ k. hidden b k i)) at
 
-  pub silent-While : (site : SiteId) (cond : Expr) (a : List Stmt) (at : ℕ) → silent_part p plan s (tree.While site cond a) at ≡ silent_while p plan s site cond a at
+  pub silent-While : (site : SiteId) (cond : Expr) (a : List Stmt) (at : ℕ) → silent_part p plan s (tree.While site cond a) at ≡ silent_while p
+      plan s site cond a at
   unfolding silent_part silent_parts stmt_code opened_statement
   silent-While site cond a at = λ i. tested p plan s site cond (repetition at (branch p plan s site) (λ k. hidden a k i)) at
 
@@ -54,7 +58,8 @@ module _ (p : Program) (plan : Plan) (s : ℕ) where
   unfolding silent_parts
   silent-none at = refl
 
-  silent-cons : (x : Stmt) (xs : List Stmt) (at : ℕ) → silent_parts p plan s (x ∷ xs) at ≡ silent_part p plan s x at ++ silent_parts p plan s xs (at + length (silent_part p plan s x at))
+  silent-cons : (x : Stmt) (xs : List Stmt) (at : ℕ) → silent_parts p plan s (x ∷ xs) at ≡ silent_part p plan s x at ++ silent_parts p plan s xs
+      (at + length (silent_part p plan s x at))
   unfolding silent_parts silent_part
   silent-cons x xs at = refl
 

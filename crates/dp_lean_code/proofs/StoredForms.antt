@@ -1,5 +1,6 @@
 -- Which stores are done inside statements, by form.
-use Rattle.dp_semantics.proofs.Names.{opened_statement, ◌≡◌, refl, sym, ap, ◌∙◌, ℕ, suc, ◌+◌, ◌<◌, ◌≤◌, Bool, true, false, ◌||◌, List, [], ◌∷◌, ◌++◌, length, drop, get_or, list_any, flat_map, SiteId, Expr, Stmt, Program, Plan, Access, accesses, accesses_in, hidden-the_row-Stmt-0}
+use Rattle.dp_semantics.proofs.Names.{opened_statement, ◌≡◌, refl, sym, ap, ◌∙◌, ℕ, suc, ◌+◌, ◌<◌, ◌≤◌, Bool, true, false, ◌||◌, List, [], ◌∷◌, ◌++◌, length}
+use Rattle.dp_semantics.proofs.Names.{drop, get_or, list_any, flat_map, SiteId, Expr, Stmt, Program, Plan, Access, accesses, accesses_in, hidden-the_row-Stmt-0}
 use Rattle.std.proofs.Common.{add-one, drop-cons}
 use Rattle.std.proofs.Math.Bool.{or_assoc}
 use Rattle.std.proofs.Math.ListN.{drop_of_length-le}
@@ -45,7 +46,8 @@ module _ (p : Program) (plan : Plan) (s : ℕ) (k : Known) where
   unfolding stored_in
   stored-Call f line args = refl
 
-  pub stored-If : (site : SiteId) (e : Expr) (a b : List Stmt) → stored_in p plan s k (tree.If site e a b) ≡ (stored_inside p plan s k a || stored_inside p plan s k b)
+  pub stored-If : (site : SiteId) (e : Expr) (a b : List Stmt) →
+      stored_in p plan s k (tree.If site e a b) ≡ (stored_inside p plan s k a || stored_inside p plan s k b)
   unfolding stored_in stored_inside opened_statement
   stored-If site e a b =
       any_join test (accesses_in (hidden-the_row-Stmt-0 a)) (accesses_in (hidden-the_row-Stmt-0 b)) ∙ (λ i. inner a i || inner b i)
@@ -74,7 +76,8 @@ pub ruleset stored_forms = (stored-Assign, stored-Store, stored-Print, stored-Br
 
 pub ruleset stored_steps = (stored-none, stored-next)
 
-module _ (p : Program) (plan : Plan) (s : ℕ) (k : Known) (all : List Stmt) (i : ℕ) (kept : stored_inside p plan s k (drop i all) ≡ stored_inside p plan s k all) where
+module _ (p : Program) (plan : Plan) (s : ℕ) (k : Known) (all : List Stmt) (i : ℕ)
+    (kept : stored_inside p plan s k (drop i all) ≡ stored_inside p plan s k all) where
   module _ (x : Stmt) (h : i < length all) (is : x ≡ get_or all i x) where
     -- a store is done there
     pub stored_found : stored_in p plan s k x ≡ true → true ≡ stored_inside p plan s k all

@@ -1,10 +1,13 @@
 -- What is looked up in a region's tables is what the definitions say.
-use Rattle.dp_semantics.proofs.Names.{◌≡◌, ◌⊎◌, inl, inr, refl, sym, ap, ◌∙◌, arith, not, ℕ, zero, suc, ◌+◌, ◌-◌, ◌<◌, ◌≤◌, ◌==◌, ◌&&◌, ◌||◌, nat_le, if◌then◌else◌, Bool, true, false, List, [], ◌∷◌, length, map, Option, Some, None, slice_get, list_any, lt-leb, le-leb, ne_eqb, or_from, cases_lt, Program, Plan, Access, cell_count, stage_of, region_accesses, is_replicated, is_body_local, last}
+use Rattle.dp_semantics.proofs.Names.{◌≡◌, ◌⊎◌, inl, inr, refl, sym, ap, ◌∙◌, arith, not, ℕ, zero, suc, ◌+◌, ◌-◌, ◌<◌, ◌≤◌, ◌==◌, ◌&&◌, ◌||◌, nat_le}
+use Rattle.dp_semantics.proofs.Names.{if◌then◌else◌, Bool, true, false, List, [], ◌∷◌, length, map, Option, Some, None, slice_get, list_any, lt-leb, le-leb}
+use Rattle.dp_semantics.proofs.Names.{ne_eqb, or_from, cases_lt, Program, Plan, Access, cell_count, stage_of, region_accesses, is_replicated, is_body_local}
+use Rattle.dp_semantics.proofs.Names.{last}
 use Rattle.std.proofs.Common.{slice_index}
 use Rattle.dp_tree.specs.declared.VarInfo.{VarInfo}
 use Rattle.dp_tree.specs.Numbering.{numbers_from}
 use Rattle.dp_plan.specs.Access.{is_local}
-use Rattle.dp_plan.specs.Written.{site_in}
+use Rattle.dp_plan.specs.Written.{access_site}
 use Rattle.dp_plan.specs.Checked.{is_checked}
 use Rattle.dp_plan.proofs.Ascent.{Ascends}
 use Rattle.dp_semantics.proofs.Each.{Each}
@@ -18,7 +21,8 @@ module _ {X : Type 0} (f : ℕ → X) where
   pub numbered_at : (first n k : ℕ) → k < n → slice_get (map f (numbers_from first n)) k ≡ Some (f (first + k))
   numbered_at first zero k low = absurd (omega (arith, low))
   numbered_at first (suc n) zero low = let e : first ≡ first + 0 = omega arith in ap (λ j. Some (f j)) e
-  numbered_at first (suc n) (suc k) low = let e : first + 1 + k ≡ first + suc k = omega arith in numbered_at (first + 1) n k (omega (arith, low)) ∙ ap (λ j. Some (f j)) e
+  numbered_at first (suc n) (suc k) low = let e : first + 1 + k ≡ first + suc k = omega arith in numbered_at (first + 1) n k (omega (arith, low))
+      ∙ ap (λ j. Some (f j)) e
 
   pub numbered_past : (first n k : ℕ) → n ≤ k → slice_get (map f (numbers_from first n)) k ≡ None
   numbered_past first zero k high = refl
@@ -30,7 +34,7 @@ module _ (h : ℕ → ℕ) where
   abbrev by_site : List Access → List ℕ
   by_site all = map (λ (a : Access). h a.site) all
 
-  site_at : (all : List Access) (k i : ℕ) → Ascends k (map site_in all) → i < length all → slice_index (by_site all) i ≡ h (k + i)
+  site_at : (all : List Access) (k i : ℕ) → Ascends k (map access_site all) → i < length all → slice_index (by_site all) i ≡ h (k + i)
   site_at [] k i up low = absurd (omega (arith, low))
   site_at (a ∷ all) k zero up low = let e : a.site ≡ k + 0 = omega (arith, up.0) in ap h e
   site_at (a ∷ all) k (suc i) up low = let e : suc k + i ≡ k + suc i = omega arith in site_at all (suc k) i up.1 (omega (arith, low)) ∙ ap h e
@@ -40,7 +44,7 @@ module _ (h : ℕ → ℕ) where
   site_past (a ∷ all) zero high = absurd (omega (arith, high))
   site_past (a ∷ all) (suc i) high = site_past all i (omega (arith, high))
 
-  pub by_number : (all : List Access) (k f : ℕ) → Ascends k (map site_in all) → (f < k → h f ≡ 0) → (k + length all ≤ f → h f ≡ 0) →
+  pub by_number : (all : List Access) (k f : ℕ) → Ascends k (map access_site all) → (f < k → h f ≡ 0) → (k + length all ≤ f → h f ≡ 0) →
       (if nat_le k f then slice_index (by_site all) (f - k) else 0) ≡ h f
   by_number all k f up below past = elim (cases_lt f k) [
     | inl low ↦ ap (λ c. if c then slice_index (by_site all) (f - k) else 0) (lt-leb k f low) ∙ sym (below low)
@@ -59,7 +63,8 @@ module _ (p : Program) (plan : Plan) (x : ℕ) (lacks : slice_get p.vars x ≡ N
   none_loaded : (loads : List ℕ) → Each (λ y. 0 < cell_count p (record { 0 = y })) loads → list_any (λ (y : ℕ). y == x) loads ≡ false
   none_loaded [] h = refl
   none_loaded (y ∷ loads) h =
-      or_from (y == x) (list_any (λ (z : ℕ). z == x) loads) (ne_eqb y x (λ e. let c = ap (λ (z : ℕ). cell_count p (record { 0 = z })) e in omega (arith, h.0, c, no_cell))) (none_loaded loads h.1)
+      or_from (y == x) (list_any (λ (z : ℕ). z == x) loads) (ne_eqb y x (λ e. let c = ap (λ (z : ℕ). cell_count p (record { 0 = z })) e in
+      omega (arith, h.0, c, no_cell))) (none_loaded loads h.1)
 
   none_so : (test : Access → Bool) (all : List Access) → Each (Sound p plan) all → list_any (λ (a : Access). test a && loads_var p plan x a) all ≡ false
   none_so test [] h = refl
@@ -74,9 +79,11 @@ module _ (p : Program) (plan : Plan) (x : ℕ) (lacks : slice_get p.vars x ≡ N
   module _ (sound : Each (Sound p plan) (region_accesses p plan)) (s : ℕ) where
     not_wanted : wanted p plan s x ≡ false
     not_wanted = by (is_judge p plan s) (is_replicated plan (suc s)) (none_so (λ a. is_checked p plan a.site) (region_accesses p plan) sound)
-        (none_so (λ a. stage_of p plan a.site == s) (region_accesses p plan) sound) (none_so (λ a. stage_of p plan a.site == suc s) (region_accesses p plan) sound)
+        (none_so (λ a. stage_of p plan a.site == s) (region_accesses p plan) sound) (none_so (λ a. stage_of p plan a.site == suc s)
+        (region_accesses p plan) sound)
       where
-        by : (judge par : Bool) → list_any (compares p plan x) (region_accesses p plan) ≡ false → is_loaded_in p plan s x ≡ false → is_loaded_in p plan (suc s) x ≡ false →
+        by : (judge par : Bool) → list_any (compares p plan x) (region_accesses p plan) ≡ false → is_loaded_in p plan s x ≡ false →
+            is_loaded_in p plan (suc s) x ≡ false →
             (if judge then list_any (compares p plan x) (region_accesses p plan) else is_loaded_in p plan s x || (par && is_loaded_in p plan (suc s) x)) ≡ false
         by true par e f g = e
         by false true e f g = or_from _ _ f g
@@ -92,20 +99,25 @@ module _ (p : Program) (plan : Plan) (x : ℕ) (lacks : slice_get p.vars x ≡ N
         and_true false = refl
 
 -- the stage's row of a table of stages and variables
-pub done_right : (p : Program) (plan : Plan) (sound : Each (Sound p plan) (region_accesses p plan)) (s : ℕ) → 0 < s → s ≤ last plan → (table : List (List Bool)) →
+pub done_right : (p : Program) (plan : Plan) (sound : Each (Sound p plan) (region_accesses p plan)) (s : ℕ) → 0 < s → s ≤ last plan →
+    (table : List (List Bool)) →
     table ≡ map (λ (t : ℕ). map (is_done_to p plan t) (numbers_from 0 (length p.vars))) (numbers_from 1 (last plan)) → (x : ℕ) →
     or_else (is_judge p plan s) (entry_of x (slice_get table (s - 1))) ≡ is_done_to p plan s x
 done_right p plan sound s low high table is x =
     let n : s - 1 < last plan = omega (arith, low, high) in
     let e : 1 + (s - 1) ≡ s = omega (arith, low) in
     ap (λ (o : Option (List Bool)). or_else (is_judge p plan s) (entry_of x o))
-    (ap (λ (t : List (List Bool)). slice_get t (s - 1)) is ∙ numbered_at (λ t. map (is_done_to p plan t) (numbers_from 0 (length p.vars))) 1 (last plan) (s - 1) n
+    (ap (λ (t : List (List Bool)). slice_get t (s - 1)) is ∙ numbered_at (λ t. map (is_done_to p plan t) (numbers_from 0 (length p.vars))) 1
+    (last plan) (s - 1) n
     ∙ ap (λ t. Some (map (is_done_to p plan t) (numbers_from 0 (length p.vars)))) e)
     ∙ by (cases_lt x (length p.vars))
   where
-    by : (x < length p.vars) ⊎ (length p.vars ≤ x) → or_else (is_judge p plan s) (slice_get (map (is_done_to p plan s) (numbers_from 0 (length p.vars))) x) ≡ is_done_to p plan s x
-    by (inl there) = let e : 0 + x ≡ x = omega arith in ap (or_else (is_judge p plan s)) (numbered_at (is_done_to p plan s) 0 (length p.vars) x there) ∙ ap (is_done_to p plan s) e
-    by (inr behind) = ap (or_else (is_judge p plan s)) (numbered_past (is_done_to p plan s) 0 (length p.vars) x behind) ∙ lacking_done p plan x (none_there p.vars x behind) sound s
+    by : (x < length p.vars) ⊎ (length p.vars ≤ x) → or_else (is_judge p plan s) (slice_get (map (is_done_to p plan s) (numbers_from 0 (length p.vars))) x)
+        ≡ is_done_to p plan s x
+    by (inl there) = let e : 0 + x ≡ x = omega arith in ap (or_else (is_judge p plan s)) (numbered_at (is_done_to p plan s) 0 (length p.vars) x there)
+        ∙ ap (is_done_to p plan s) e
+    by (inr behind) = ap (or_else (is_judge p plan s)) (numbered_past (is_done_to p plan s) 0 (length p.vars) x behind)
+        ∙ lacking_done p plan x (none_there p.vars x behind) sound s
       where
         none_there : (vars : List VarInfo) (i : ℕ) → length vars ≤ i → slice_get vars i ≡ None
         none_there [] i h = refl

@@ -1,6 +1,8 @@
 -- What the walk appends, a choice, a loop or a statement at a time, is its code.
 use Rattle.std.proofs.Common.{add-one, drop-cons}
-use Rattle.dp_semantics.proofs.Names.{◌≡◌, refl, sym, ap, ◌∙◌, append_assoc, append-nil, length-append, ℕ, zero, suc, ◌+◌, ◌-◌, ◌<◌, ◌||◌, if◌then◌else◌, Bool, true, false, List, [], ◌∷◌, ◌++◌, length, drop, take, get_or, Some, None, SiteId, Expr, Stmt, out-Stmt, Program, Plan, site_of, assumed_in}
+use Rattle.dp_semantics.proofs.Names.{◌≡◌, refl, sym, ap, ◌∙◌, append_assoc, append-nil, length-append, ℕ, zero, suc, ◌+◌, ◌-◌, ◌<◌, ◌||◌, if◌then◌else◌, Bool}
+use Rattle.dp_semantics.proofs.Names.{true, false, List, [], ◌∷◌, ◌++◌, length, drop, take, get_or, Some, None, SiteId, Expr, Stmt, out-Stmt, Program, Plan}
+use Rattle.dp_semantics.proofs.Names.{site_of, assumed_in}
 use Rattle.std.proofs.lemmas.List.{length-drop}
 use Rattle.dp_tree.specs.declared.Stmt.TheVariants as tree
 use Rattle.dp_lean_code.specs.declared.LeanOp.{LeanOp}
@@ -33,26 +35,35 @@ module _ (p : Program) (plan : Plan) (s : ℕ) (k : Known) where
         (tested_code p plan s site cond old ++ either fork (branch p plan s site) (a (fork + 1)) (b (fork + 1 + length (a (fork + 1)) + 1)))
         ≡ old ++ choice_part p plan s k site cond a b (length old)
     choice_filled a b =
-        filled_by _ old _ (tested p plan s site cond (choice (branch p plan s site) a b) (length old)) (behind_test p plan s site cond old fork fork_is (choice (branch p plan s site) a b))
-        ∙ ap (λ n. old ++ (if keeps p plan s k site || (has_ops (a n) || has_ops (b (n + length (a n) + 1))) then tested p plan s site cond (choice (branch p plan s site) a b) (length old) else [])) inner
+        filled_by _ old _ (tested p plan s site cond (choice (branch p plan s site) a b) (length old)) (behind_test p plan s site cond old fork fork_is
+        (choice (branch p plan s site) a b))
+        ∙ ap (λ n. old ++ (if keeps p plan s k site || (has_ops (a n) || has_ops (b (n + length (a n) + 1))) then tested p plan s site cond
+        (choice (branch p plan s site) a b) (length old) else [])) inner
 
     pub loop_filled : (a : ℕ → List LeanOp) (start : ℕ) → start ≡ length old →
-        where_filled (keeps p plan s k site || has_ops (a (fork + 1))) old (tested_code p plan s site cond old ++ repetition start (branch p plan s site) a fork)
+        where_filled (keeps p plan s k site || has_ops (a (fork + 1))) old (tested_code p plan s site cond old
+        ++ repetition start (branch p plan s site) a fork)
         ≡ old ++ loop_part p plan s k site cond a (length old)
     loop_filled a start start_is =
-        filled_by _ old _ (tested p plan s site cond (repetition start (branch p plan s site) a) (length old)) (behind_test p plan s site cond old fork fork_is (repetition start (branch p plan s site) a))
-        ∙ ap (λ n. old ++ (if keeps p plan s k site || has_ops (a n) then tested p plan s site cond (repetition start (branch p plan s site) a) (length old) else [])) inner
-        ∙ ap (λ n. old ++ (if keeps p plan s k site || has_ops (a (length old + length (test_code p plan s site cond (length old)) + 1)) then tested p plan s site cond (repetition n (branch p plan s site) a) (length old) else [])) start_is
+        filled_by _ old _ (tested p plan s site cond (repetition start (branch p plan s site) a) (length old)) (behind_test p plan s site cond old fork fork_is
+        (repetition start (branch p plan s site) a))
+        ∙ ap (λ n. old ++ (if keeps p plan s k site || has_ops (a n) then tested p plan s site cond (repetition start (branch p plan s site) a)
+        (length old) else [])) inner
+        ∙ ap (λ n. old ++ (if keeps p plan s k site || has_ops (a (length old + length (test_code p plan s site cond (length old)) + 1))
+        then tested p plan s site cond (repetition n (branch p plan s site) a) (length old) else [])) start_is
 
   -- an `if` by whether the stage reaches it, and by what is assumed
   module _ (site : SiteId) (cond : Expr) (a b : List Stmt) (at : ℕ) where
-    pub if_reached : reaches p plan s k site ≡ true → part p plan s k (tree.If site cond a b) at ≡ choice_part p plan s k site cond (code p plan s k a) (code p plan s k b) at
+    pub if_reached : reaches p plan s k site ≡ true → part p plan s k (tree.If site cond a b) at ≡ choice_part p plan s k site cond (code p plan s k a)
+        (code p plan s k b) at
     if_reached h = part-If p plan s k site cond a b at ∙ rw h refl
 
-    pub if_taken : reaches p plan s k site ≡ false → assumed_in plan.assume site.0 ≡ Some true → part p plan s k (tree.If site cond a b) at ≡ code p plan s k a at
+    pub if_taken : reaches p plan s k site ≡ false → assumed_in plan.assume site.0 ≡ Some true →
+        part p plan s k (tree.If site cond a b) at ≡ code p plan s k a at
     if_taken h e = part-If p plan s k site cond a b at ∙ rw h (rw e refl)
 
-    pub if_passed : reaches p plan s k site ≡ false → assumed_in plan.assume site.0 ≡ Some false → part p plan s k (tree.If site cond a b) at ≡ code p plan s k b at
+    pub if_passed : reaches p plan s k site ≡ false → assumed_in plan.assume site.0 ≡ Some false →
+        part p plan s k (tree.If site cond a b) at ≡ code p plan s k b at
     if_passed h e = part-If p plan s k site cond a b at ∙ rw h (rw e refl)
 
     pub if_dropped : reaches p plan s k site ≡ false → assumed_in plan.assume site.0 ≡ None → part p plan s k (tree.If site cond a b) at ≡ []
@@ -84,7 +95,8 @@ module _ (p : Program) (plan : Plan) (s : ℕ) (k : Known) where
         ap (λ xs. ops ++ parts p plan s k (suc less) xs (length ops)) (sym cons) ∙ ap (λ n. ops ++ parts p plan s k n (drop i all) (length ops)) (sym e) ∙ kept
 
     headed : (new here : List LeanOp) (n : ℕ) → new ≡ ops ++ here →
-        ops ++ (here ++ parts p plan s k n (drop (i + 1) all) (length ops + length here)) ≡ whole → new ++ parts p plan s k n (drop (i + 1) all) (length new) ≡ whole
+        ops ++ (here ++ parts p plan s k n (drop (i + 1) all) (length ops + length here)) ≡ whole →
+        new ++ parts p plan s k n (drop (i + 1) all) (length new) ≡ whole
     headed new here n new_is kept =
         ap (λ j. new ++ parts p plan s k n (drop (i + 1) all) j) (ap length new_is ∙ length-append ops here)
         ∙ ap (λ ys. ys ++ parts p plan s k n (drop (i + 1) all) (length ops + length here)) new_is
@@ -95,7 +107,8 @@ module _ (p : Program) (plan : Plan) (s : ℕ) (k : Known) where
           ops ++ head_part p plan s k n x (drop (i + 1) all) (λ j. part p plan s k x j) (λ n j. parts p plan s k n (drop (i + 1) all) j) (length ops) ≡ whole
       unfolding parts
       at_head n e =
-          ap (λ c. ops ++ head_part p plan s k c x (drop (i + 1) all) (λ j. part p plan s k x j) (λ n j. parts p plan s k n (drop (i + 1) all) j) (length ops)) (sym e)
+          ap (λ c. ops ++ head_part p plan s k c x (drop (i + 1) all) (λ j. part p plan s k x j) (λ n j. parts p plan s k n (drop (i + 1) all) j)
+          (length ops)) (sym e)
           ∙ ap (λ xs. ops ++ parts p plan s k zero xs (length ops)) (sym cons) ∙ kept
 
       -- a statement outside of blocks
@@ -115,7 +128,8 @@ module _ (p : Program) (plan : Plan) (s : ℕ) (k : Known) where
 
   pub all_done : (left : ℕ) (xs : List Stmt) (ops whole : List LeanOp) → ops ++ parts p plan s k left xs (length ops) ≡ whole → xs ≡ [] → ops ≡ whole
   unfolding parts
-  all_done left xs ops whole kept none = sym (append-nil ops) ∙ ap (λ ys. ops ++ ys) (sym (nothing left)) ∙ ap (λ ys. ops ++ parts p plan s k left ys (length ops)) (sym none) ∙ kept
+  all_done left xs ops whole kept none =
+      sym (append-nil ops) ∙ ap (λ ys. ops ++ ys) (sym (nothing left)) ∙ ap (λ ys. ops ++ parts p plan s k left ys (length ops)) (sym none) ∙ kept
     where
       nothing : (left : ℕ) → parts p plan s k left [] (length ops) ≡ []
       nothing zero = refl

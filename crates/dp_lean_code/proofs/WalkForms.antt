@@ -1,12 +1,15 @@
 -- The code that a walk makes, by the statement's form.
-use Rattle.dp_semantics.proofs.Names.{opened_statement, hidden-the_row-Stmt-0, ◌≡◌, refl, ap, ◌∙◌, append_assoc, length-append, ℕ, zero, suc, ◌+◌, ◌==◌, if◌then◌else◌, true, List, [], ◌∷◌, ◌++◌, length, take, SiteId, Expr, Stmt, out-Stmt, Program, Plan, site_of, stage_of, assumed_in}
+use Rattle.dp_semantics.proofs.Names.{opened_statement, hidden-the_row-Stmt-0, ◌≡◌, refl, ap, ◌∙◌, append_assoc, length-append, ℕ, zero, suc, ◌+◌, ◌==◌}
+use Rattle.dp_semantics.proofs.Names.{if◌then◌else◌, true, List, [], ◌∷◌, ◌++◌, length, take, SiteId, Expr, Stmt, out-Stmt, Program, Plan, site_of, stage_of}
+use Rattle.dp_semantics.proofs.Names.{assumed_in}
 use Rattle.dp_base.specs.declared.VarId.{VarId}
 use Rattle.dp_tree.specs.declared.Stmt.TheVariants as tree
 use Rattle.dp_tree.specs.Statements.{listed}
 use Rattle.dp_lean.specs.Needed.{is_judge}
 use Rattle.dp_lean_code.specs.declared.LeanOp.{LeanOp}
 use Rattle.dp_lean_code.specs.declared.LeanOp.TheVariants.{Begin, Finish}
-use Rattle.dp_lean_code.specs.steps.Walked.{Known, reaches, where_kept, assign_code, store_code, print_code, reached_exit, choice_part, reached_loop, assumed_part, block_part, head_part}
+use Rattle.dp_lean_code.specs.steps.Walked.{Known, reaches, where_kept, assign_code, store_code, print_code, reached_exit, choice_part, reached_loop}
+use Rattle.dp_lean_code.specs.steps.Walked.{assumed_part, block_part, head_part}
 unfoldable use Rattle.dp_lean_code.specs.steps.Walked.{part, row, parts}
 unfoldable use Rattle.dp_lean_code.specs.steps.Silenced.{silent_parts}
 
@@ -38,15 +41,18 @@ module _ (p : Program) (plan : Plan) (s : ℕ) (k : Known) where
           ∙ ap (λ ops. block_part p plan s k (site_of (out-Stmt x)) (x ∷ take n xs) at ++ ops)
           (same n (at + length (block_part p plan s k (site_of (out-Stmt x)) (x ∷ take n xs) at)))
 
-  pub part-Assign : (site : SiteId) (x : VarId) (e : Expr) (at : ℕ) → part p plan s k (tree.Assign site x e) at ≡ where_kept p plan s k site (k.done x.0) (assign_code p plan s site x e at)
+  pub part-Assign : (site : SiteId) (x : VarId) (e : Expr) (at : ℕ) → part p plan s k (tree.Assign site x e) at ≡ where_kept p plan s k site (k.done x.0)
+      (assign_code p plan s site x e at)
   unfolding part
   part-Assign site x e at = refl
 
-  pub part-Store : (site : SiteId) (x : VarId) (i e : Expr) (at : ℕ) → part p plan s k (tree.Store site x i e) at ≡ where_kept p plan s k site (k.done x.0) (store_code p plan s site x i e at)
+  pub part-Store : (site : SiteId) (x : VarId) (i e : Expr) (at : ℕ) → part p plan s k (tree.Store site x i e) at ≡ where_kept p plan s k site (k.done x.0)
+      (store_code p plan s site x i e at)
   unfolding part
   part-Store site x i e at = refl
 
-  pub part-Print : (site : SiteId) (e : Expr) (at : ℕ) → part p plan s k (tree.Print site e) at ≡ where_kept p plan s k site (is_judge p plan s) (print_code p plan s site e at)
+  pub part-Print : (site : SiteId) (e : Expr) (at : ℕ) → part p plan s k (tree.Print site e) at ≡ where_kept p plan s k site (is_judge p plan s)
+      (print_code p plan s site e at)
   unfolding part
   part-Print site e at = refl
 
@@ -70,7 +76,8 @@ module _ (p : Program) (plan : Plan) (s : ℕ) (k : Known) where
       if reaches p plan s k site then choice_part p plan s k site cond (λ j. row_hidden zero a j i) (λ j. row_hidden zero b j i) at
       else assumed_part p plan s k (assumed_in plan.assume site.0) (row_hidden zero a at i) (row_hidden zero b at i)
 
-  pub part-While : (site : SiteId) (cond : Expr) (a : List Stmt) (at : ℕ) → part p plan s k (tree.While site cond a) at ≡ reached_loop p plan s k site cond (code a) at
+  pub part-While : (site : SiteId) (cond : Expr) (a : List Stmt) (at : ℕ) → part p plan s k (tree.While site cond a) at ≡ reached_loop p plan s k
+      site cond (code a) at
   unfolding part opened_statement
   part-While site cond a at = λ i. reached_loop p plan s k site cond (λ j. row_hidden zero a j i) at
 
@@ -87,5 +94,6 @@ module _ (p : Program) (plan : Plan) (s : ℕ) (k : Known) where
   block_own site block old one two new reached own begun said ended =
       let at : length one ≡ length old + 1 = ap length begun ∙ length-append old (Begin site ∷ []) in
       let inner = silent_parts p plan s block (length old + 1) in
-      ended ∙ ap (λ ops. ops ++ Finish ∷ []) (said ∙ ap (λ n. one ++ silent_parts p plan s block n) at ∙ ap (λ ops. ops ++ inner) begun ∙ append_assoc old (Begin site ∷ []) inner)
+      ended ∙ ap (λ ops. ops ++ Finish ∷ []) (said ∙ ap (λ n. one ++ silent_parts p plan s block n) at ∙ ap (λ ops. ops ++ inner) begun
+      ∙ append_assoc old (Begin site ∷ []) inner)
       ∙ append_assoc old (Begin site ∷ inner) (Finish ∷ []) ∙ rw (reached, own) refl

@@ -1,5 +1,6 @@
 -- Statements of a stage's text whose lean code is known, wherever they stand: alone, one behind the other, and kept or not.
-use Rattle.dp_semantics.proofs.Names.{◌≡◌, refl, sym, ap, ◌∙◌, subst, append_assoc, append-nil, length-append, arith, or-false, not, ℕ, zero, ◌+◌, ◌==◌, ◌||◌, if◌then◌else◌, Bool, true, false, List, [], ◌∷◌, ◌++◌, length, SiteId, Stmt, out-Stmt, Program, Plan, site_of, stage_of}
+use Rattle.dp_semantics.proofs.Names.{◌≡◌, refl, sym, ap, ◌∙◌, subst, append_assoc, append-nil, length-append, arith, or-false, not, ℕ, zero, ◌+◌, ◌==◌, ◌||◌}
+use Rattle.dp_semantics.proofs.Names.{if◌then◌else◌, Bool, true, false, List, [], ◌∷◌, ◌++◌, length, SiteId, Stmt, out-Stmt, Program, Plan, site_of, stage_of}
 use Rattle.dp_net.specs.NetItems.{Marks, is_nil}
 use Rattle.dp_net.proofs.Texts.{site_at}
 use Rattle.dp_lean.specs.Needed.{is_kept_block, store_inside}
@@ -75,8 +76,10 @@ module _ (p : Program) (plan : Plan) (s : ℕ) (m : Marks) where
 
   -- a statement outside of blocks
   module _ (x y : Stmt) (code : ℕ → List LeanOp) (none : m.block_at (site_at x) ≡ []) (also : m.block_at (site_at y) ≡ []) where
-    stays : (kept : Bool) → ((at : ℕ) → stmt_of p plan s m (block_code p plan s) (some_block p plan s m) y at ≡ code at) → ((at : ℕ) → has_ops (code at) ≡ true) → (ys : List Stmt) (at : ℕ) →
-        (list_code p plan s m (block_code p plan s) zero (kept_when kept y ++ leaned p plan m s ys) at ≡ (if kept then code at else []) ++ lean_of ys (at + length (if kept then code at else [])))
+    stays : (kept : Bool) → ((at : ℕ) → stmt_of p plan s m (block_code p plan s) (some_block p plan s m) y at ≡ code at) →
+        ((at : ℕ) → has_ops (code at) ≡ true) → (ys : List Stmt) (at : ℕ) →
+        (list_code p plan s m (block_code p plan s) zero (kept_when kept y ++ leaned p plan m s ys) at ≡ (if kept then code at else [])
+        ++ lean_of ys (at + length (if kept then code at else [])))
         × (not (is_nil (kept_when kept y ++ leaned p plan m s ys)) ≡ (has_ops (if kept then code at else []) || has_left ys))
     stays true same some ys at = (
       code_alone p plan s m (block_code p plan s) (some_block p plan s m) y (leaned p plan m s ys) at also
@@ -85,11 +88,13 @@ module _ (p : Program) (plan : Plan) (s : ℕ) (m : Marks) where
     )
     stays false same some ys at = let e : at ≡ at + 0 = omega arith in (ap (lean_of ys) e, refl)
 
-    pub piece_stays : (kept : Bool) → lean p plan m s x ≡ kept_when kept y → ((at : ℕ) → stmt_of p plan s m (block_code p plan s) (some_block p plan s m) y at ≡ code at) →
+    pub piece_stays : (kept : Bool) → lean p plan m s x ≡ kept_when kept y →
+        ((at : ℕ) → stmt_of p plan s m (block_code p plan s) (some_block p plan s m) y at ≡ code at) →
         ((at : ℕ) → has_ops (code at) ≡ true) → Piece (x ∷ []) (λ at. if kept then code at else [])
     piece_stays kept is same some = record {
       gives = λ ys at.
-          let left : leaned p plan m s (x ∷ ys) ≡ kept_when kept y ++ leaned p plan m s ys = lean_alone p plan m s x ys none ∙ ap (λ zs. zs ++ leaned p plan m s ys) is in
+          let left : leaned p plan m s (x ∷ ys) ≡ kept_when kept y ++ leaned p plan m s ys = lean_alone p plan m s x ys none
+          ∙ ap (λ zs. zs ++ leaned p plan m s ys) is in
           let r = stays kept same some ys at in
           (ap (λ (zs : List Stmt). list_code p plan s m (block_code p plan s) zero zs at) left ∙ r.0, ap (λ (zs : List Stmt). not (is_nil zs)) left ∙ r.1);
     }
@@ -119,7 +124,8 @@ module _ (p : Program) (plan : Plan) (s : ℕ) (m : Marks) where
     pub piece_block : Piece (x ∷ b) whole_block
     piece_block = record {
       gives = λ ys at.
-          let left : leaned p plan m s (x ∷ (b ++ ys)) ≡ if_kept p plan m s (is_kept_block p plan s (x ∷ b)) (x ∷ b) ++ leaned p plan m s ys = lean_block p plan m s x b ys is in
+          let left : leaned p plan m s (x ∷ (b ++ ys)) ≡ if_kept p plan m s (is_kept_block p plan s (x ∷ b)) (x ∷ b) ++ leaned p plan m s ys = lean_block p
+          plan m s x b ys is in
           let r = blocked (stage_of p plan site.0 == s) (store_inside p plan s (x ∷ b)) refl refl ys at in
           (ap (λ (zs : List Stmt). list_code p plan s m (block_code p plan s) zero zs at) left ∙ r.0, ap (λ (zs : List Stmt). not (is_nil zs)) left ∙ r.1);
     }

@@ -1,5 +1,7 @@
 -- The judge's text has all statements of the region's body as they are, so that the body has its blocks whole.
-use Rattle.dp_semantics.proofs.Names.{◌≡◌, refl, sym, ap, ◌∙◌, subst, ◌≤◌, ℕ, true, ◌&&◌, List, [], ◌∷◌, ◌++◌, and_parts, SiteId, Expr, Stmt, Row_of-Stmt, end_of-Stmt, more_of-Stmt, out-Stmt, roll-Stmt, roll-out-Stmt, rolls-If, rolls-While, If, While, Program, Plan, Access, accesses, accesses_in, stage_of, project, project_in, project_all}
+use Rattle.dp_semantics.proofs.Names.{◌≡◌, refl, sym, ap, ◌∙◌, subst, ◌≤◌, ℕ, true, ◌&&◌, List, [], ◌∷◌, ◌++◌, and_parts, SiteId, Expr, Stmt, Row_of-Stmt}
+use Rattle.dp_semantics.proofs.Names.{end_of-Stmt, more_of-Stmt, out-Stmt, roll-Stmt, roll-out-Stmt, rolls-If, rolls-While, If, While, Program, Plan, Access}
+use Rattle.dp_semantics.proofs.Names.{accesses, accesses_in, stage_of, project, project_in, project_all}
 use Rattle.dp_tree.specs.declared.Stmt.TheVariants as tree
 use Rattle.dp_tree.specs.declared.Stmt.TheViews.{outs-If', outs-While'}
 use Rattle.dp_tree.specs.declared.Stmt.TheBlock.{shown-the_row-Stmt-0}
@@ -66,7 +68,8 @@ module _ (p : Program) (plan : Plan) (s : ℕ) where
       ap (λ (ys : List Stmt). ys ++ project_all p plan s xs) (whole x both.0 sites.0) ∙ ap (λ (ys : List Stmt). x ∷ ys) (whole_all xs both.1 sites.1)
 
 -- the first branch of a choice in a text
-pub first_text : (m : Marks) (x : Stmt) (rest : List Stmt) (site : SiteId) (cond : Expr) (a b : List Stmt) → out-Stmt x ≡ If site cond a b → m.block_at (site_at x) ≡ [] → Text m (x ∷ rest) → Text m a
+pub first_text : (m : Marks) (x : Stmt) (rest : List Stmt) (site : SiteId) (cond : Expr) (a b : List Stmt) → out-Stmt x ≡ If site cond a b →
+    m.block_at (site_at x) ≡ [] → Text m (x ∷ rest) → Text m a
 first_text m x rest site cond a b is none (texts.leaf plain l t) = absurd (subst IsLeaf is l)
 first_text m x rest site cond a b is none (texts.choice {a = c} {b = d} plain at u v t) =
     let same : If _ _ c d ≡ If site cond a b = sym at ∙ is in

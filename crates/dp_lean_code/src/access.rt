@@ -82,7 +82,8 @@ impl Accesses {
         index: &Expr,
         e: &Expr,
     ) -> Result<(), NoMemory>
-        ensures { OnOk result (out.new ≡ out.old ++ record { site = site.0; loads = spec.loaded_list index.now ++ spec.loaded_list e.now; stores = Some var.0 } ∷ []) }
+        ensures { OnOk result (out.new ≡ out.old ++ record { site = site.0; loads = spec.loaded_list index.now ++ spec.loaded_list e.now; stores = Some var.0 }
+            ∷ []) }
     {
         let mut loads = Row::new(self.alloc);
         put_loaded(&mut loads, index)?;

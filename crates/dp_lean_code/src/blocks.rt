@@ -132,7 +132,8 @@ impl<'a> Runs<'a> {
 
     /// By site of the plan's region: the number of the statements of the block that begins there, or 0.
     pub fn blocks(self, alloc: Global) -> Result<Row<u32>, NoMemory>
-        ensures { IfOk result (λ blocks. blocks ≡ flat_map (spec.region_counts self.entry.program.now self.entry.plan.now self.entry.homes.now) (region_statement self.entry.program.now self.entry.plan.now)) }
+        ensures { IfOk result (λ blocks. blocks ≡ flat_map (spec.region_counts self.entry.program.now self.entry.plan.now self.entry.homes.now)
+            (region_statement self.entry.program.now self.entry.plan.now)) }
     {
         let mut blocks = Row::new(alloc);
         for statement in self.program.main.as_slice() {

@@ -18,8 +18,10 @@ use dp_tree::Expr;
 impl<'a> LeanStage<'a> {
     /// Appends a condition and its op, whose place it answers.
     pub fn fork(self, ops: &mut Row<LeanOp>, site: SiteId, cond: &Expr) -> Result<u32, NoMemory>
-        ensures at { IfOk result (λ at. at ≡ length (ops.old ++ code.test_code self.entry.program.now self.entry.plan.now self.entry.number site cond.now (length ops.old))) }
-        ensures more { OnOk result (ops.new ≡ (ops.old ++ code.test_code self.entry.program.now self.entry.plan.now self.entry.number site cond.now (length ops.old)) ++ code.branch self.entry.program.now self.entry.plan.now self.entry.number site 0 ∷ []) }
+        ensures at { IfOk result (λ at. at ≡ length (ops.old ++ code.test_code self.entry.program.now self.entry.plan.now self.entry.number site cond.now
+            (length ops.old))) }
+        ensures more { OnOk result (ops.new ≡ (ops.old ++ code.test_code self.entry.program.now self.entry.plan.now self.entry.number site cond.now
+            (length ops.old)) ++ code.branch self.entry.program.now self.entry.plan.now self.entry.number site 0 ∷ []) }
     {
         self.test(ops, site, cond)?;
         let at = place(ops)?;
@@ -38,8 +40,10 @@ impl<'a> LeanStage<'a> {
     ) -> Result<(), NoMemory>
         requires order { fork < jump }
         requires within { jump < length ops.old }
-        ensures { (base then_part else_part : List LeanOp) (condition passing : LeanOp) → ops.old ≡ base ++ condition ∷ (then_part ++ passing ∷ else_part) → fork ≡ length base → jump ≡ fork + 1 + length then_part →
-            OnOk result (ops.new ≡ base ++ code.either fork (code.branch self.entry.program.now self.entry.plan.now self.entry.number site) then_part else_part) }
+        ensures { (base then_part else_part : List LeanOp) (condition passing : LeanOp) → ops.old ≡ base ++ condition ∷ (then_part ++ passing ∷ else_part) →
+            fork ≡ length base → jump ≡ fork + 1 + length then_part →
+            OnOk result (ops.new ≡ base ++ code.either fork (code.branch self.entry.program.now self.entry.plan.now self.entry.number site)
+            then_part else_part) }
     {
         let end = place(ops)?;
         let other = jump + 1;
@@ -63,7 +67,8 @@ impl<'a> LeanStage<'a> {
     ) -> Result<(), NoMemory>
         requires within { fork < length ops.old }
         ensures { (base body : List LeanOp) (condition : LeanOp) → ops.old ≡ base ++ condition ∷ body → fork ≡ length base →
-            OnOk result (ops.new ≡ base ++ code.branch self.entry.program.now self.entry.plan.now self.entry.number site (fork + 1 + length body + 1) ∷ (body ++ Plain (Jump start) ∷ [])) }
+            OnOk result (ops.new ≡ base ++ code.branch self.entry.program.now self.entry.plan.now self.entry.number site (fork + 1 + length body + 1)
+            ∷ (body ++ Plain (Jump start) ∷ [])) }
     {
         ops.push(LeanOp::Plain(Op::Jump(start)))?;
         let end = place(ops)?;
@@ -82,8 +87,12 @@ impl<'a> LeanStage<'a> {
     ) -> Result<(), NoMemory>
         requires order { fork < jump }
         requires within { jump < length ops.old }
-        ensures { (base test then_part else_part : List LeanOp) (condition passing : LeanOp) → ops.old ≡ (base ++ test) ++ condition ∷ (then_part ++ passing ∷ else_part) → start ≡ length base → fork ≡ length (base ++ test) → jump ≡ fork + 1 + length then_part →
-            OnOk result (ops.new ≡ spec.where_filled (spec.keeps self.entry.program.now self.entry.plan.now self.entry.number (known_of self.entry.program.now self.entry.plan.now self.entry.tables.now self.entry.number) site || (spec.has_ops then_part || spec.has_ops else_part)) base ((base ++ test) ++ code.either fork (code.branch self.entry.program.now self.entry.plan.now self.entry.number site) then_part else_part)) }
+        ensures { (base test then_part else_part : List LeanOp) (condition passing : LeanOp) → ops.old ≡ (base ++ test) ++ condition
+            ∷ (then_part ++ passing ∷ else_part) → start ≡ length base → fork ≡ length (base ++ test) → jump ≡ fork + 1 + length then_part →
+            OnOk result (ops.new ≡ spec.where_filled (spec.keeps self.entry.program.now self.entry.plan.now self.entry.number
+            (known_of self.entry.program.now self.entry.plan.now self.entry.tables.now self.entry.number) site
+            || (spec.has_ops then_part || spec.has_ops else_part)) base
+            ((base ++ test) ++ code.either fork (code.branch self.entry.program.now self.entry.plan.now self.entry.number site) then_part else_part)) }
     {
         if self.keeps(site) || jump > fork + 1 || ops.len() > jump as usize + 1 {
             self.close_choice(ops, site, fork, jump)
@@ -102,8 +111,12 @@ impl<'a> LeanStage<'a> {
         start: u32,
     ) -> Result<(), NoMemory>
         requires within { fork < length ops.old }
-        ensures { (base test body : List LeanOp) (condition : LeanOp) → ops.old ≡ (base ++ test) ++ condition ∷ body → start ≡ length base → fork ≡ length (base ++ test) →
-            OnOk result (ops.new ≡ spec.where_filled (spec.keeps self.entry.program.now self.entry.plan.now self.entry.number (known_of self.entry.program.now self.entry.plan.now self.entry.tables.now self.entry.number) site || spec.has_ops body) base ((base ++ test) ++ code.branch self.entry.program.now self.entry.plan.now self.entry.number site (fork + 1 + length body + 1) ∷ (body ++ Plain (Jump start) ∷ []))) }
+        ensures { (base test body : List LeanOp) (condition : LeanOp) → ops.old ≡ (base ++ test) ++ condition ∷ body → start ≡ length base →
+            fork ≡ length (base ++ test) →
+            OnOk result (ops.new ≡ spec.where_filled (spec.keeps self.entry.program.now self.entry.plan.now self.entry.number
+            (known_of self.entry.program.now self.entry.plan.now self.entry.tables.now self.entry.number) site || spec.has_ops body) base
+            ((base ++ test) ++ code.branch self.entry.program.now self.entry.plan.now self.entry.number site (fork + 1 + length body + 1)
+            ∷ (body ++ Plain (Jump start) ∷ []))) }
     {
         if self.keeps(site) || ops.len() > fork as usize + 1 {
             self.close_loop(ops, site, fork, start)

@@ -33,7 +33,8 @@ fn mark(marks: &mut Row<bool>, cell: u32) -> Result<(), NoMemory>
 impl LeanTables {
     /// By cell: whether the stage's blocks don't tell what they store there. It is as long as needed.
     pub fn hidden(&self, alloc: Global, p: &Program, stage: u32) -> Result<Row<bool>, NoMemory>
-        ensures { IfOk result (λ hidden. (plan : Plan) (c : ℕ) → AreTablesOf p.now plan self.now → get_or hidden c false ≡ (paying_marks p.now plan).hides stage c) }
+        ensures { IfOk result (λ hidden. (plan : Plan) (c : ℕ) → AreTablesOf p.now plan self.now →
+            get_or hidden c false ≡ (paying_marks p.now plan).hides stage c) }
     {
         let mut hidden = Row::new(alloc);
         for (place, home) in self.homes.as_slice().iter().enumerate() {

@@ -25,7 +25,10 @@ pub fn front(all: &[Stmt], count: usize) -> &[Stmt]
 impl<'a> LeanStage<'a> {
     /// The statement is reached, and kept because of its site or for another reason.
     fn stays(self, site: SiteId, also: bool) -> bool
-        ensures { result ≡ (spec.reaches self.entry.program.now self.entry.plan.now self.entry.number (known_of self.entry.program.now self.entry.plan.now self.entry.tables.now self.entry.number) site && (spec.keeps self.entry.program.now self.entry.plan.now self.entry.number (known_of self.entry.program.now self.entry.plan.now self.entry.tables.now self.entry.number) site || also)) }
+        ensures { result ≡ (spec.reaches self.entry.program.now self.entry.plan.now self.entry.number
+            (known_of self.entry.program.now self.entry.plan.now self.entry.tables.now self.entry.number) site
+            && (spec.keeps self.entry.program.now self.entry.plan.now self.entry.number
+            (known_of self.entry.program.now self.entry.plan.now self.entry.tables.now self.entry.number) site || also)) }
     {
         self.reaches(site) && (self.keeps(site) || also)
     }
@@ -37,7 +40,10 @@ impl<'a> LeanStage<'a> {
         var: VarId,
         e: &Expr,
     ) -> Result<(), NoMemory>
-        ensures { OnOk result (ops.new ≡ ops.old ++ spec.where_kept self.entry.program.now self.entry.plan.now self.entry.number (known_of self.entry.program.now self.entry.plan.now self.entry.tables.now self.entry.number) site ((known_of self.entry.program.now self.entry.plan.now self.entry.tables.now self.entry.number).done var.0) (spec.assign_code self.entry.program.now self.entry.plan.now self.entry.number site var e.now (length ops.old))) }
+        ensures { OnOk result (ops.new ≡ ops.old ++ spec.where_kept self.entry.program.now self.entry.plan.now self.entry.number
+            (known_of self.entry.program.now self.entry.plan.now self.entry.tables.now self.entry.number) site
+            ((known_of self.entry.program.now self.entry.plan.now self.entry.tables.now self.entry.number).done var.0)
+            (spec.assign_code self.entry.program.now self.entry.plan.now self.entry.number site var e.now (length ops.old))) }
     {
         if self.stays(site, self.does(var)) {
             self.assignment(ops, site, var, e)?;
@@ -53,7 +59,10 @@ impl<'a> LeanStage<'a> {
         index: &Expr,
         e: &Expr,
     ) -> Result<(), NoMemory>
-        ensures { OnOk result (ops.new ≡ ops.old ++ spec.where_kept self.entry.program.now self.entry.plan.now self.entry.number (known_of self.entry.program.now self.entry.plan.now self.entry.tables.now self.entry.number) site ((known_of self.entry.program.now self.entry.plan.now self.entry.tables.now self.entry.number).done array.0) (spec.store_code self.entry.program.now self.entry.plan.now self.entry.number site array index.now e.now (length ops.old))) }
+        ensures { OnOk result (ops.new ≡ ops.old ++ spec.where_kept self.entry.program.now self.entry.plan.now self.entry.number
+            (known_of self.entry.program.now self.entry.plan.now self.entry.tables.now self.entry.number) site
+            ((known_of self.entry.program.now self.entry.plan.now self.entry.tables.now self.entry.number).done array.0)
+            (spec.store_code self.entry.program.now self.entry.plan.now self.entry.number site array index.now e.now (length ops.old))) }
     {
         if self.stays(site, self.does(array)) {
             self.store(ops, site, array, index, e)?;
@@ -62,7 +71,10 @@ impl<'a> LeanStage<'a> {
     }
 
     pub fn kept_print(self, ops: &mut Row<LeanOp>, site: SiteId, e: &Expr) -> Result<(), NoMemory>
-        ensures { OnOk result (ops.new ≡ ops.old ++ spec.where_kept self.entry.program.now self.entry.plan.now self.entry.number (known_of self.entry.program.now self.entry.plan.now self.entry.tables.now self.entry.number) site (needed.is_judge self.entry.program.now self.entry.plan.now self.entry.number) (spec.print_code self.entry.program.now self.entry.plan.now self.entry.number site e.now (length ops.old))) }
+        ensures { OnOk result (ops.new ≡ ops.old ++ spec.where_kept self.entry.program.now self.entry.plan.now self.entry.number
+            (known_of self.entry.program.now self.entry.plan.now self.entry.tables.now self.entry.number) site
+            (needed.is_judge self.entry.program.now self.entry.plan.now self.entry.number) (spec.print_code self.entry.program.now self.entry.plan.now
+            self.entry.number site e.now (length ops.old))) }
     {
         if self.stays(site, self.is_judge()) {
             self.print(ops, site, e)?;
@@ -71,7 +83,8 @@ impl<'a> LeanStage<'a> {
     }
 
     pub fn kept_exit(self, ops: &mut Row<LeanOp>, site: SiteId, cond: &Expr) -> Result<(), NoMemory>
-        ensures { OnOk result (ops.new ≡ ops.old ++ spec.reached_exit self.entry.program.now self.entry.plan.now self.entry.number (known_of self.entry.program.now self.entry.plan.now self.entry.tables.now self.entry.number) site cond.now (length ops.old)) }
+        ensures { OnOk result (ops.new ≡ ops.old ++ spec.reached_exit self.entry.program.now self.entry.plan.now self.entry.number
+            (known_of self.entry.program.now self.entry.plan.now self.entry.tables.now self.entry.number) site cond.now (length ops.old)) }
     {
         if self.reaches(site) {
             self.exit(ops, site, cond)?;
@@ -83,7 +96,8 @@ impl<'a> LeanStage<'a> {
     #[tactic(auto, using(crate::proofs::StoredForms::stored_forms))]
     #[cycle(stored)]
     fn does_in(self, statement: &Stmt) -> bool
-        ensures { result ≡ spec.stored_in self.entry.program.now self.entry.plan.now self.entry.number (known_of self.entry.program.now self.entry.plan.now self.entry.tables.now self.entry.number) statement.now }
+        ensures { result ≡ spec.stored_in self.entry.program.now self.entry.plan.now self.entry.number
+            (known_of self.entry.program.now self.entry.plan.now self.entry.tables.now self.entry.number) statement.now }
     {
         match statement {
             Stmt::Assign { var, .. } => self.does(*var),
@@ -105,7 +119,8 @@ impl<'a> LeanStage<'a> {
     #[tactic(auto, using(crate::proofs::StoredForms::stored_steps))]
     #[cycle(stored)]
     pub fn does_inside(self, all: &[Stmt]) -> bool
-        ensures { result ≡ spec.stored_inside self.entry.program.now self.entry.plan.now self.entry.number (known_of self.entry.program.now self.entry.plan.now self.entry.tables.now self.entry.number) all.now }
+        ensures { result ≡ spec.stored_inside self.entry.program.now self.entry.plan.now self.entry.number
+            (known_of self.entry.program.now self.entry.plan.now self.entry.tables.now self.entry.number) all.now }
     {
         for statement in all {
             if self.does_in(statement) {
@@ -123,7 +138,8 @@ impl<'a> LeanStage<'a> {
         all: &[Stmt],
         count: u32,
     ) -> Result<(), NoMemory>
-        ensures { OnOk result (ops.new ≡ ops.old ++ spec.block_part self.entry.program.now self.entry.plan.now self.entry.number (known_of self.entry.program.now self.entry.plan.now self.entry.tables.now self.entry.number) site (take count all.now) (length ops.old)) }
+        ensures { OnOk result (ops.new ≡ ops.old ++ spec.block_part self.entry.program.now self.entry.plan.now self.entry.number
+            (known_of self.entry.program.now self.entry.plan.now self.entry.tables.now self.entry.number) site (take count all.now) (length ops.old)) }
     {
         if !self.reaches(site) {
             return Ok(());

@@ -32,7 +32,8 @@ impl<'a> LeanStage<'a> {
         var: VarId,
         e: &Expr,
     ) -> Result<(), NoMemory>
-        ensures { OnOk result (ops.new ≡ ops.old ++ spec.assign_code self.entry.program.now self.entry.plan.now self.entry.number site var e.now (length ops.old)) }
+        ensures { OnOk result (ops.new ≡ ops.old ++ spec.assign_code self.entry.program.now self.entry.plan.now self.entry.number site var
+            e.now (length ops.old)) }
     {
         if self.owns(site) {
             value(self.alloc, self.program, ops, e)?;
@@ -51,7 +52,8 @@ impl<'a> LeanStage<'a> {
         index: &Expr,
         e: &Expr,
     ) -> Result<(), NoMemory>
-        ensures { OnOk result (ops.new ≡ ops.old ++ spec.store_code self.entry.program.now self.entry.plan.now self.entry.number site array index.now e.now (length ops.old)) }
+        ensures { OnOk result (ops.new ≡ ops.old ++ spec.store_code self.entry.program.now self.entry.plan.now self.entry.number site array index.now
+            e.now (length ops.old)) }
     {
         if self.owns(site) {
             value(self.alloc, self.program, ops, index)?;
@@ -81,7 +83,8 @@ impl<'a> LeanStage<'a> {
 
     /// An early exit: where its value isn't 0 the turn ends.
     pub fn exit(self, ops: &mut Row<LeanOp>, site: SiteId, cond: &Expr) -> Result<(), NoMemory>
-        ensures { OnOk result (ops.new ≡ ops.old ++ spec.break_code self.entry.program.now self.entry.plan.now self.entry.number site cond.now (length ops.old)) }
+        ensures { OnOk result (ops.new ≡ ops.old ++ spec.break_code self.entry.program.now self.entry.plan.now self.entry.number site
+            cond.now (length ops.old)) }
     {
         self.test(ops, site, cond)?;
         let fork = place(ops)?;

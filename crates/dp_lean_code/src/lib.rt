@@ -1,4 +1,5 @@
-//! Flat code of a stage's lean text: which code a stage has, what its ops do, one by one, and how it is made. The law is that the code does what the lean turn does.
+//! Flat code of a stage's lean text: which code a stage has, what its ops do, one by one, and how it is made. The law is that the code does what the lean turn
+//! does.
 #![tactic(auto)]
 
 mod access;

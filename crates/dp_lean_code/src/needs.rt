@@ -113,7 +113,8 @@ impl<'a> Needs<'a> {
 
     /// The stage of the first site that loads the variable, or another one.
     fn first_loading(self, var: u32, other: u32) -> u32
-        ensures { result ≡ hidden.first_stage self.entry.program.now self.entry.plan.now (hidden.loads_var self.entry.program.now self.entry.plan.now var) other (spec.accesses_in self.entry.accesses.now) }
+        ensures { result ≡ hidden.first_stage self.entry.program.now self.entry.plan.now (hidden.loads_var self.entry.program.now self.entry.plan.now var) other
+            (spec.accesses_in self.entry.accesses.now) }
     {
         for access in self.accesses {
             if self.loads(access, var) {
@@ -138,7 +139,8 @@ impl<'a> Needs<'a> {
     /// Each site that loads the variable is of this stage, and isn't checked.
     fn is_kept_in(self, home: u32, var: u32) -> bool
         requires tabled { IsTabled self.program.now self.plan.now }
-        ensures { result ≡ list_all (spec.keeps_to self.entry.program.now self.entry.plan.now (spec.accesses_in self.entry.accesses.now) home var) (spec.accesses_in self.entry.accesses.now) }
+        ensures { result ≡ list_all (spec.keeps_to self.entry.program.now self.entry.plan.now (spec.accesses_in self.entry.accesses.now) home var)
+            (spec.accesses_in self.entry.accesses.now) }
     {
         for access in self.accesses {
             let at_home = self.stage(access) == home
@@ -194,7 +196,8 @@ impl<'a> Needs<'a> {
     /// The homes of the private variables, by variable.
     pub fn homes(self, alloc: Global) -> Result<Row<Option<u32>>, NoMemory>
         requires tabled { IsTabled self.program.now self.plan.now }
-        ensures { IfOk result (λ homes. homes ≡ map (spec.private_home self.entry.program.now self.entry.plan.now (spec.accesses_in self.entry.accesses.now)) (numbers_from 0 (length self.entry.program.now.vars))) }
+        ensures { IfOk result (λ homes. homes ≡ map (spec.private_home self.entry.program.now self.entry.plan.now (spec.accesses_in self.entry.accesses.now))
+            (numbers_from 0 (length self.entry.program.now.vars))) }
     {
         let count = self.count()?;
         let mut homes = Row::new(alloc);
@@ -208,7 +211,8 @@ impl<'a> Needs<'a> {
     fn done_in(self, alloc: Global, stage: u32) -> Result<Row<bool>, NoMemory>
         requires tabled { IsTabled self.program.now self.plan.now }
         requires few { stage < 4294967295 }
-        ensures { IfOk result (λ row. row ≡ map (spec.done_among self.entry.program.now self.entry.plan.now (spec.accesses_in self.entry.accesses.now) stage) (numbers_from 0 (length self.entry.program.now.vars))) }
+        ensures { IfOk result (λ row. row ≡ map (spec.done_among self.entry.program.now self.entry.plan.now (spec.accesses_in self.entry.accesses.now) stage)
+            (numbers_from 0 (length self.entry.program.now.vars))) }
     {
         let count = self.count()?;
         let mut row = Row::new(alloc);
@@ -221,7 +225,9 @@ impl<'a> Needs<'a> {
     /// Whether a stage does stores, by stage and variable.
     pub fn done(self, alloc: Global) -> Result<Row<Row<bool>>, NoMemory>
         requires tabled { IsTabled self.program.now self.plan.now }
-        ensures { IfOk result (λ rows. rows ≡ map (λ stage. map (spec.done_among self.entry.program.now self.entry.plan.now (spec.accesses_in self.entry.accesses.now) stage) (numbers_from 0 (length self.entry.program.now.vars))) (numbers_from 1 (last self.entry.plan.now))) }
+        ensures { IfOk result
+            (λ rows. rows ≡ map (λ stage. map (spec.done_among self.entry.program.now self.entry.plan.now (spec.accesses_in self.entry.accesses.now) stage)
+            (numbers_from 0 (length self.entry.program.now.vars))) (numbers_from 1 (last self.entry.plan.now))) }
     {
         let last = self.last()?;
         let mut rows = Row::new(alloc);

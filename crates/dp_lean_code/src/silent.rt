@@ -16,7 +16,8 @@ use dp_tree::{Expr, Stmt};
 impl<'a> LeanStage<'a> {
     #[cycle(silent)]
     fn silent_statement(self, ops: &mut Row<LeanOp>, statement: &Stmt) -> Result<(), NoMemory>
-        ensures { OnOk result (ops.new ≡ ops.old ++ spec.silent_part self.entry.program.now self.entry.plan.now self.entry.number statement.now (length ops.old)) }
+        ensures { OnOk result (ops.new ≡ ops.old ++ spec.silent_part self.entry.program.now self.entry.plan.now self.entry.number
+            statement.now (length ops.old)) }
     {
         match statement {
             Stmt::Assign { site, var, value } => self.assignment(ops, *site, *var, value),
@@ -56,9 +57,13 @@ impl<'a> LeanStage<'a> {
         then_part: &[Stmt],
         cond: &Expr,
     ) -> Result<(u32, u32), NoMemory>
-        ensures fork { IfOk result (λ at. at.0 ≡ length (ops.old ++ code.test_code self.entry.program.now self.entry.plan.now self.entry.number site cond.now (length ops.old))) }
-        ensures jump { IfOk result (λ at. at.1 ≡ at.0 + 1 + length (spec.silent_parts self.entry.program.now self.entry.plan.now self.entry.number then_part.now (at.0 + 1))) }
-        ensures more { IfOk result (λ at. ops.new ≡ (ops.old ++ code.test_code self.entry.program.now self.entry.plan.now self.entry.number site cond.now (length ops.old)) ++ code.branch self.entry.program.now self.entry.plan.now self.entry.number site 0 ∷ (spec.silent_parts self.entry.program.now self.entry.plan.now self.entry.number then_part.now (at.0 + 1) ++ Plain (Jump 0) ∷ [])) }
+        ensures fork { IfOk result (λ at. at.0 ≡ length (ops.old ++ code.test_code self.entry.program.now self.entry.plan.now self.entry.number site cond.now
+            (length ops.old))) }
+        ensures jump { IfOk result (λ at. at.1 ≡ at.0 + 1 + length (spec.silent_parts self.entry.program.now self.entry.plan.now self.entry.number
+            then_part.now (at.0 + 1))) }
+        ensures more { IfOk result (λ at. ops.new ≡ (ops.old ++ code.test_code self.entry.program.now self.entry.plan.now self.entry.number site cond.now
+            (length ops.old)) ++ code.branch self.entry.program.now self.entry.plan.now self.entry.number site 0
+            ∷ (spec.silent_parts self.entry.program.now self.entry.plan.now self.entry.number then_part.now (at.0 + 1) ++ Plain (Jump 0) ∷ [])) }
     {
         let fork = self.fork(ops, site, cond)?;
         self.silent(ops, then_part)?;
@@ -75,7 +80,8 @@ impl<'a> LeanStage<'a> {
         body: &[Stmt],
         cond: &Expr,
     ) -> Result<(), NoMemory>
-        ensures { OnOk result (ops.new ≡ ops.old ++ spec.silent_while self.entry.program.now self.entry.plan.now self.entry.number site cond.now body.now (length ops.old)) }
+        ensures { OnOk result (ops.new ≡ ops.old ++ spec.silent_while self.entry.program.now self.entry.plan.now self.entry.number site cond.now
+            body.now (length ops.old)) }
     {
         let start = place(ops)?;
         let fork = self.fork(ops, site, cond)?;

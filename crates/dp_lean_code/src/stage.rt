@@ -62,7 +62,8 @@ impl<'a> LeanStage<'a> {
 
     /// The site itself asks that its statement is kept.
     pub fn keeps(self, site: SiteId) -> bool
-        ensures { result ≡ spec.keeps self.entry.program.now self.entry.plan.now self.entry.number (known_of self.entry.program.now self.entry.plan.now self.entry.tables.now self.entry.number) site }
+        ensures { result ≡ spec.keeps self.entry.program.now self.entry.plan.now self.entry.number
+            (known_of self.entry.program.now self.entry.plan.now self.entry.tables.now self.entry.number) site }
     {
         self.owns(site)
             || site.0 == self.plan.first_site(self.program)
@@ -115,7 +116,8 @@ impl<'a> LeanStage<'a> {
 
     /// Appends a condition's value, where the site is the stage's own.
     pub fn test(self, ops: &mut Row<LeanOp>, site: SiteId, cond: &Expr) -> Result<(), NoMemory>
-        ensures { OnOk result (ops.new ≡ ops.old ++ code.test_code self.entry.program.now self.entry.plan.now self.entry.number site cond.now (length ops.old)) }
+        ensures { OnOk result (ops.new ≡ ops.old ++ code.test_code self.entry.program.now self.entry.plan.now self.entry.number site
+            cond.now (length ops.old)) }
     {
         if self.owns(site) {
             value(self.alloc, self.program, ops, cond)?;

@@ -19,7 +19,8 @@ impl<'a> LeanStage<'a> {
     /// Appends the code of a statement outside of blocks.
     #[cycle(parts)]
     pub fn statement(self, ops: &mut Row<LeanOp>, statement: &Stmt) -> Result<(), NoMemory>
-        ensures { OnOk result (ops.new ≡ ops.old ++ spec.part self.entry.program.now self.entry.plan.now self.entry.number (known_of self.entry.program.now self.entry.plan.now self.entry.tables.now self.entry.number) statement.now (length ops.old)) }
+        ensures { OnOk result (ops.new ≡ ops.old ++ spec.part self.entry.program.now self.entry.plan.now self.entry.number
+            (known_of self.entry.program.now self.entry.plan.now self.entry.tables.now self.entry.number) statement.now (length ops.old)) }
     {
         match statement {
             Stmt::Assign { site, var, value } => self.kept_assignment(ops, *site, *var, value),
@@ -52,11 +53,7 @@ impl<'a> LeanStage<'a> {
                 cond,
                 body,
                 ..
-            } => {
-                let start = ops.len();
-                let (fork, jump) = self.first_branch(ops, *site, body.as_slice(), cond)?;
-                self.end_choice(ops, *site, start, fork, jump)
-            }
+            } => self.turn(ops, *site, body.as_slice(), cond),
             Stmt::Break { site, cond } => self.kept_exit(ops, *site, cond),
             Stmt::Call { .. } => Ok(()),
         }
@@ -72,15 +69,40 @@ impl<'a> LeanStage<'a> {
         then_part: &[Stmt],
         cond: &Expr,
     ) -> Result<(u32, u32), NoMemory>
-        ensures fork { IfOk result (λ at. at.0 ≡ length (ops.old ++ code.test_code self.entry.program.now self.entry.plan.now self.entry.number site cond.now (length ops.old))) }
-        ensures jump { IfOk result (λ at. at.1 ≡ at.0 + 1 + length (spec.parts self.entry.program.now self.entry.plan.now self.entry.number (known_of self.entry.program.now self.entry.plan.now self.entry.tables.now self.entry.number) zero then_part.now (at.0 + 1))) }
-        ensures more { IfOk result (λ at. ops.new ≡ (ops.old ++ code.test_code self.entry.program.now self.entry.plan.now self.entry.number site cond.now (length ops.old)) ++ code.branch self.entry.program.now self.entry.plan.now self.entry.number site 0 ∷ (spec.parts self.entry.program.now self.entry.plan.now self.entry.number (known_of self.entry.program.now self.entry.plan.now self.entry.tables.now self.entry.number) zero then_part.now (at.0 + 1) ++ Plain (Jump 0) ∷ [])) }
+        ensures fork { IfOk result (λ at. at.0 ≡ length (ops.old ++ code.test_code self.entry.program.now self.entry.plan.now self.entry.number site cond.now
+            (length ops.old))) }
+        ensures jump { IfOk result (λ at. at.1 ≡ at.0 + 1 + length (spec.parts self.entry.program.now self.entry.plan.now self.entry.number
+            (known_of self.entry.program.now self.entry.plan.now self.entry.tables.now self.entry.number) zero then_part.now (at.0 + 1))) }
+        ensures more { IfOk result (λ at. ops.new ≡ (ops.old ++ code.test_code self.entry.program.now self.entry.plan.now self.entry.number site cond.now
+            (length ops.old)) ++ code.branch self.entry.program.now self.entry.plan.now self.entry.number site 0
+            ∷ (spec.parts self.entry.program.now self.entry.plan.now self.entry.number
+            (known_of self.entry.program.now self.entry.plan.now self.entry.tables.now self.entry.number) zero then_part.now (at.0 + 1)
+            ++ Plain (Jump 0) ∷ [])) }
     {
         let fork = self.fork(ops, site, cond)?;
         self.statements(ops, then_part)?;
         let jump = place(ops)?;
         ops.push(LeanOp::Plain(Op::Jump(0)))?;
         Ok((fork, jump))
+    }
+
+    /// Appends a turn of the region.
+    #[cycle(parts)]
+    fn turn(
+        self,
+        ops: &mut Row<LeanOp>,
+        site: SiteId,
+        body: &[Stmt],
+        cond: &Expr,
+    ) -> Result<(), NoMemory>
+        ensures { OnOk result (ops.new ≡ ops.old ++ spec.choice_part self.entry.program.now self.entry.plan.now self.entry.number
+            (known_of self.entry.program.now self.entry.plan.now self.entry.tables.now self.entry.number) site cond.now
+            (spec.parts self.entry.program.now self.entry.plan.now self.entry.number (known_of self.entry.program.now self.entry.plan.now self.entry.tables.now
+            self.entry.number) zero body.now) (λ at. []) (length ops.old)) }
+    {
+        let start = ops.len();
+        let (fork, jump) = self.first_branch(ops, site, body, cond)?;
+        self.end_choice(ops, site, start, fork, jump)
     }
 
     /// Appends a loop.
@@ -92,7 +114,10 @@ impl<'a> LeanStage<'a> {
         body: &[Stmt],
         cond: &Expr,
     ) -> Result<(), NoMemory>
-        ensures { OnOk result (ops.new ≡ ops.old ++ spec.reached_loop self.entry.program.now self.entry.plan.now self.entry.number (known_of self.entry.program.now self.entry.plan.now self.entry.tables.now self.entry.number) site cond.now (spec.parts self.entry.program.now self.entry.plan.now self.entry.number (known_of self.entry.program.now self.entry.plan.now self.entry.tables.now self.entry.number) zero body.now) (length ops.old)) }
+        ensures { OnOk result (ops.new ≡ ops.old ++ spec.reached_loop self.entry.program.now self.entry.plan.now self.entry.number
+            (known_of self.entry.program.now self.entry.plan.now self.entry.tables.now self.entry.number) site cond.now
+            (spec.parts self.entry.program.now self.entry.plan.now self.entry.number (known_of self.entry.program.now self.entry.plan.now self.entry.tables.now
+            self.entry.number) zero body.now) (length ops.old)) }
     {
         if !self.reaches(site) {
             return Ok(());
@@ -106,7 +131,8 @@ impl<'a> LeanStage<'a> {
     /// Appends the code of statements one after the other, the blocks among them whole.
     #[cycle(parts)]
     fn statements(self, ops: &mut Row<LeanOp>, all: &[Stmt]) -> Result<(), NoMemory>
-        ensures { OnOk result (ops.new ≡ ops.old ++ spec.parts self.entry.program.now self.entry.plan.now self.entry.number (known_of self.entry.program.now self.entry.plan.now self.entry.tables.now self.entry.number) zero all.now (length ops.old)) }
+        ensures { OnOk result (ops.new ≡ ops.old ++ spec.parts self.entry.program.now self.entry.plan.now self.entry.number
+            (known_of self.entry.program.now self.entry.plan.now self.entry.tables.now self.entry.number) zero all.now (length ops.old)) }
     {
         let mut left = 0;
         for (place, statement) in all.iter().enumerate() {

@@ -1,5 +1,6 @@
 -- What a stage sends that isn't void: what came, with its own items behind, and the end of its turn.
-use Rattle.dp_semantics.proofs.Names.{◌≡◌, inl, inr, refl, sym, ap, ◌∙◌, arith, ℕ, zero, suc, ◌<◌, ◌≤◌, Bool, true, false, if◌then◌else◌, nat_le, le-leb, List, [], ◌∷◌, ◌++◌, ℤ, length, length-append, cases_lt, cases_eq, Option, Some, None, slice_get, leb-true, Epoch, stage_of}
+use Rattle.dp_semantics.proofs.Names.{◌≡◌, inl, inr, refl, sym, ap, ◌∙◌, arith, ℕ, zero, suc, ◌<◌, ◌≤◌, Bool, true, false, if◌then◌else◌, nat_le, le-leb, List}
+use Rattle.dp_semantics.proofs.Names.{[], ◌∷◌, ◌++◌, ℤ, length, length-append, cases_lt, cases_eq, Option, Some, None, slice_get, leb-true, Epoch, stage_of}
 use Rattle.dp_semantics.specs.EpochKey.{EpochKey, epoch_of}
 use Rattle.dp_net.specs.NetItems.{Marks, Item, item_list}
 use Rattle.dp_net.specs.NetRun.{NetEnded, net_run}

@@ -1,5 +1,8 @@
 -- The memory of a worker beside that of the stage before it, in the cells of what the worker's stage loads and what outlives the iteration.
-use Rattle.dp_semantics.proofs.Names.{◌≡◌, inl, inr, refl, sym, ap, ◌∙◌, subst, arith, cases_eq, cases_lt, eq-eqb, ℕ, ◌==◌, Bool, true, false, ◌&&◌, List, ℤ, pos, length, length-set, get_or, get_or_past, get_or-set_at, get_or-set_other, slice_set, Some, Stmt, Stmt-F, Assign, Store, Print, If, While, Region, Break, Call, Program, Plan, Effect, Stored, Printed, Decided, Tried, stored, site_of, stage_of, is_cell_of}
+use Rattle.dp_semantics.proofs.Names.{◌≡◌, inl, inr, refl, sym, ap, ◌∙◌, subst, arith, cases_eq, cases_lt, eq-eqb, ℕ, ◌==◌, Bool, true, false, ◌&&◌, List, ℤ}
+use Rattle.dp_semantics.proofs.Names.{pos, length, length-set, get_or, get_or_past, get_or-set_at, get_or-set_other, slice_set, Some, Stmt, Stmt-F, Assign}
+use Rattle.dp_semantics.proofs.Names.{Store, Print, If, While, Region, Break, Call, Program, Plan, Effect, Stored, Printed, Decided, Tried, stored, site_of}
+use Rattle.dp_semantics.proofs.Names.{stage_of, is_cell_of}
 use Rattle.dp_semantics.proofs.Evaluation.{Form, InVar, head_stores}
 use Rattle.dp_semantics.proofs.Heads.{head_access}
 use Rattle.dp_semantics.proofs.Setting.{Laid, Sound}

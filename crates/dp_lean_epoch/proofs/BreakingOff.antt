@@ -1,5 +1,7 @@
 -- Turns that break off: at wrong assumptions, and where the words of an earlier stage aren't there.
-use Rattle.dp_semantics.proofs.Names.{◌≡◌, inl, inr, refl, sym, ap, ◌∙◌, ne_eqb, ℕ, suc, ◌≤◌, Bool, true, List, ◌∷◌, ℤ, Ok, Err, Stmt, out-Stmt, roll-Stmt, out-roll-Stmt, Stmt-F, Program, Plan, Word, site_of, stage_of, word_list, Void, taken_from, Turn, turn_by, turn_step, consumed_step, Ended, project_all}
+use Rattle.dp_semantics.proofs.Names.{◌≡◌, inl, inr, refl, sym, ap, ◌∙◌, ne_eqb, ℕ, suc, ◌≤◌, Bool, true, List, ◌∷◌, ℤ, Ok, Err, Stmt, out-Stmt, roll-Stmt}
+use Rattle.dp_semantics.proofs.Names.{out-roll-Stmt, Stmt-F, Program, Plan, Word, site_of, stage_of, word_list, Void, taken_from, Turn, turn_by, turn_step}
+use Rattle.dp_semantics.proofs.Names.{consumed_step, Ended, project_all}
 unfoldable use Rattle.dp_semantics.proofs.Names.{turn_from}
 use Rattle.dp_semantics.proofs.Heads.{all_well, well_at}
 use Rattle.dp_theorem.proofs.Projected.{proj_head}

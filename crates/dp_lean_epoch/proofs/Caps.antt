@@ -1,5 +1,7 @@
 -- A batch has at most one iteration where some stage doesn't keep its memory; and laws of all epochs of a program and a plan.
-use Rattle.dp_semantics.proofs.Names.{◌≡◌, inl, inr, refl, sym, ap, ◌∙◌, subst, arith, cases_lt, ℕ, zero, suc, ◌+◌, ◌-◌, ◌<◌, ◌≤◌, Bool, true, false, not, ◌||◌, if◌then◌else◌, list_all, length, List, slice_get_past, numbers_from, Stmt, Program, Plan, is_par, is_replicated, fits_plan}
+use Rattle.dp_semantics.proofs.Names.{◌≡◌, inl, inr, refl, sym, ap, ◌∙◌, subst, arith, cases_lt, ℕ, zero, suc, ◌+◌, ◌-◌, ◌<◌, ◌≤◌, Bool, true, false, not, ◌||◌}
+use Rattle.dp_semantics.proofs.Names.{if◌then◌else◌, list_all, length, List, slice_get_past, numbers_from, Stmt, Program, Plan, is_par, is_replicated}
+use Rattle.dp_semantics.proofs.Names.{fits_plan}
 use Rattle.std.specs.Prelude.{min, max}
 use Rattle.dp_tree.specs.Inlined.{IsInlined}
 use Rattle.dp_semantics.specs.EpochKey.{EpochKey}

@@ -1,5 +1,6 @@
 -- A batch from stage to stage.
-use Rattle.dp_semantics.proofs.Names.{◌≡◌, ◌⊎◌, inl, inr, refl, sym, ap, ◌∙◌, subst, arith, cases_lt, ℕ, zero, suc, ◌+◌, ◌<◌, ◌≤◌, true, false, not, if◌then◌else◌, List, [], ◌∷◌, ◌++◌, ℤ, length, length-append, map, slice_get, Option, Some}
+use Rattle.dp_semantics.proofs.Names.{◌≡◌, ◌⊎◌, inl, inr, refl, sym, ap, ◌∙◌, subst, arith, cases_lt, ℕ, zero, suc, ◌+◌, ◌<◌, ◌≤◌, true, false, not}
+use Rattle.dp_semantics.proofs.Names.{if◌then◌else◌, List, [], ◌∷◌, ◌++◌, ℤ, length, length-append, map, slice_get, Option, Some}
 use Rattle.dp_tree.specs.Numbering.{numbers_from}
 use Rattle.dp_semantics.specs.EpochKey.{EpochKey, epoch_of}
 use Rattle.dp_semantics.proofs.Setting.{Accepted}
@@ -10,8 +11,8 @@ use Rattle.dp_net.specs.Follows.{is_void}
 use Rattle.dp_net.proofs.NetSent.{ends_stay}
 use Rattle.dp_columns.specs.declared.ColumnKind.{ColumnKind}
 use Rattle.dp_lean_epoch.specs.Own.{at_stage, own_steps}
-use Rattle.dp_lean_epoch.specs.Holding.{Kept, StageColumns, Holds, HavePlaces, filled}
-use Rattle.dp_lean_epoch.specs.LeanBatch.{Stood, stood_in, LeanItem, IsLeanBatch, Stands}
+use Rattle.dp_lean_epoch.specs.Holding.{Kept, StageColumns, HoldsTold, HavePlaces, columns_filled}
+use Rattle.dp_lean_epoch.specs.LeanBatch.{Stood, stood_in, LeanItem, IsLeanBatch, IterationsStand}
 use Rattle.dp_lean_epoch.specs.Laws.{FreshBatch, BatchesExtend, BatchesAre, with_columns, fresh_item}
 use Rattle.dp_lean_epoch.proofs.Arriving.{came_alive}
 use Rattle.dp_lean_epoch.proofs.Standing.{alive_at, batch_stands}
@@ -33,7 +34,7 @@ module _ (m : Marks) (key : EpochKey) where
       by NetVoid is = off (ap (λ (status : NetStatus). not (is_onward status)) is)
 
   -- A later stage's batch has no more iterations that came to their end.
-  pub no_more : (s k r : ℕ) (x y : Stood) → Stands m key s k r x → Stands m key (suc s) k r y → y.iterations ≤ x.iterations
+  pub no_more : (s k r : ℕ) (x y : Stood) → IterationsStand m key s k r x → IterationsStand m key (suc s) k r y → y.iterations ≤ x.iterations
   no_more s k r x y sx sy = elim (cases_lt x.iterations y.iterations) [ inl past ↦ absurd (by x.ends refl past) | inr within ↦ within ]
     where
       by : (e : NetStatus) → x.ends ≡ e → x.iterations < y.iterations → ⊥
@@ -88,15 +89,15 @@ module _ (m : Marks) (key : EpochKey) (kept : Kept) where
     version = begun;
   }
     where
-      came : Stands m key s (batch_begin key cap b) (batch_size key cap b) item.stood
-      came = subst (Stands m key s (batch_begin key cap b) (batch_size key cap b)) (sym is.stood) (batch_stands m key cap s b).each
+      came : IterationsStand m key s (batch_begin key cap b) (batch_size key cap b) item.stood
+      came = subst (IterationsStand m key s (batch_begin key cap b) (batch_size key cap b)) (sym is.stood) (batch_stands m key cap s b).each
 
       by : (t : ℕ) (d : StageColumns) → (slice_get item.stages t ≡ Some d) ⊎ ((t ≡ length item.stages) × (c ≡ d)) →
-          Holds m key kept (suc t) (batch_begin key cap b) x.iterations d
+          HoldsTold m key kept (suc t) (batch_begin key cap b) x.iterations d
       by t d (inl at) = holds_front m key kept (suc t) (batch_begin key cap b) x.iterations item.stood.iterations
           (no_more m key s (batch_begin key cap b) (batch_size key cap b) item.stood x came stands) d (is.holds t d at)
-      by t d (inr at) = subst (λ (u : ℕ). Holds m key kept (suc u) (batch_begin key cap b) x.iterations d) (sym (at.0 ∙ is.size))
-          (subst (Holds m key kept (suc s) (batch_begin key cap b) x.iterations) at.1 holds)
+      by t d (inr at) = subst (λ (u : ℕ). HoldsTold m key kept (suc u) (batch_begin key cap b) x.iterations d) (sym (at.0 ∙ is.size))
+          (subst (HoldsTold m key kept (suc s) (batch_begin key cap b) x.iterations) at.1 holds)
 
   -- what a stage sends by the definition
   batch_next : (kinds : List ColumnKind) → HavePlaces m key kept kinds → (cap s b : ℕ) (item : LeanItem) → IsLeanBatch m key kept cap s b item →
@@ -106,7 +107,7 @@ module _ (m : Marks) (key : EpochKey) (kept : Kept) where
       let fill = columns_fill m key kept kinds places in
       let x : Stood = stood_in (batch_at m key cap (suc s) b) in
       let c : StageColumns = record {
-        columns = filled m key kept kinds (suc s) (batch_begin key cap b) x.iterations;
+        columns = columns_filled m key kept kinds (suc s) (batch_begin key cap b) x.iterations;
         steps = map (own_steps m key (suc s)) (numbers_from (batch_begin key cap b) x.iterations);
       } in
       let version : Option (List ℤ) = Some (at_stage m key (suc (suc s)) (batch_begin key cap b)).before in (

@@ -1,5 +1,6 @@
 -- Own items that are put into columns are held there, iteration after iteration.
-use Rattle.dp_semantics.proofs.Names.{◌≡◌, refl, sym, ap, ◌∙◌, subst, append_assoc, append-nil, arith, ℕ, zero, suc, ◌+◌, ◌-◌, ◌<◌, ◌≤◌, Bool, true, List, [], ◌∷◌, ◌++◌, length, map, map-append, Some, slice_get, Load, first_site, stage_of, flat_map, flat_map-append}
+use Rattle.dp_semantics.proofs.Names.{◌≡◌, refl, sym, ap, ◌∙◌, subst, append_assoc, append-nil, arith, ℕ, zero, suc, ◌+◌, ◌-◌, ◌<◌, ◌≤◌, Bool, true, List, []}
+use Rattle.dp_semantics.proofs.Names.{◌∷◌, ◌++◌, length, map, map-append, Some, slice_get, Load, first_site, stage_of, flat_map, flat_map-append}
 use Rattle.std.proofs.lemmas.List.Concat.{flat_map-cons}
 use Rattle.dp_tree.specs.Numbering.{numbers_from}
 use Rattle.dp_tree.proofs.NumberLists.{numbers_from-append}
@@ -11,7 +12,8 @@ use Rattle.dp_columns.specs.Columned.{Columned, nothing_kept}
 use Rattle.dp_columns.specs.Telling.{put_item, put_items}
 use Rattle.dp_columns.proofs.QueueLists.{told_held, loads_held}
 use Rattle.dp_lean_epoch.specs.Own.{own_items, own_steps, own_told, own_loads}
-use Rattle.dp_lean_epoch.specs.Holding.{Kept, StageColumns, BeginsWith, PlaceBegins, place_of, Holds, items_since, filled, HavePlaces, Grown}
+use Rattle.dp_lean_epoch.specs.Holding.{Kept, StageColumns, BeginsWith, PlaceBegins, column_place, HoldsTold, items_since, columns_filled, HavePlaces}
+use Rattle.dp_lean_epoch.specs.Holding.{QueuesGrown}
 use Rattle.dp_lean_epoch.specs.Laws.{ColumnsFill}
 use Rattle.dp_lean_epoch.proofs.OwnWhole.{site_from}
 use Rattle.dp_lean_epoch.proofs.OwnItems.{since_whole, told_since, loads_since}
@@ -52,14 +54,14 @@ module _ (m : Marks) (key : EpochKey) (kept : Kept) where
   abbrev first : ℕ
   first = first_site program plan
 
-  pub holds_front : (t k i j : ℕ) → i ≤ j → (c : StageColumns) → Holds m key kept t k j c → Holds m key kept t k i c
+  pub holds_front : (t k i j : ℕ) → i ≤ j → (c : StageColumns) → HoldsTold m key kept t k j c → HoldsTold m key kept t k i c
   holds_front t k i j low c h = record {
     told = λ y here keeps. place_shorter (flat_map (own_told m key y) (numbers_from k i))
-        (flat_map (own_told m key y) (numbers_from (k + i) (j - i))) c.columns.told (place_of key y)
-        (subst (λ (f : List Told). PlaceBegins f c.columns.told (place_of key y)) (parts (own_told m key y)) (h.told y here keeps));
+        (flat_map (own_told m key y) (numbers_from (k + i) (j - i))) c.columns.told (column_place key y)
+        (subst (λ (f : List Told). PlaceBegins f c.columns.told (column_place key y)) (parts (own_told m key y)) (h.told y here keeps));
     loads = λ y here keeps. place_shorter (flat_map (own_loads m key y) (numbers_from k i))
-        (flat_map (own_loads m key y) (numbers_from (k + i) (j - i))) c.columns.loads (place_of key y)
-        (subst (λ (f : List (List Load)). PlaceBegins f c.columns.loads (place_of key y)) (parts (own_loads m key y)) (h.loads y here keeps));
+        (flat_map (own_loads m key y) (numbers_from (k + i) (j - i))) c.columns.loads (column_place key y)
+        (subst (λ (f : List (List Load)). PlaceBegins f c.columns.loads (column_place key y)) (parts (own_loads m key y)) (h.loads y here keeps));
     steps = shorter (map (own_steps m key t) (numbers_from k i)) (map (own_steps m key t) (numbers_from (k + i) (j - i))) c.steps
         (subst (λ (f : List ℕ). BeginsWith f c.steps)
         (ap (map (own_steps m key t)) (numbers_split k i j low) ∙ map-append (own_steps m key t) (numbers_from k i) (numbers_from (k + i) (j - i))) h.steps);
@@ -68,18 +70,19 @@ module _ (m : Marks) (key : EpochKey) (kept : Kept) where
       parts : {X : Type 0} (f : ℕ → List X) → flat_map f (numbers_from k j) ≡ flat_map f (numbers_from k i) ++ flat_map f (numbers_from (k + i) (j - i))
       parts f = ap (flat_map f) (numbers_split k i j low) ∙ flat_map-append f (numbers_from k i) (numbers_from (k + i) (j - i))
 
-  holds_grown : (t k j : ℕ) (c d : StageColumns) → Holds m key kept t k j c → Grown c.columns d.columns → c.steps ≡ d.steps → Holds m key kept t k j d
+  holds_grown : (t k j : ℕ) (c d : StageColumns) → HoldsTold m key kept t k j c → QueuesGrown c.columns d.columns → c.steps ≡ d.steps →
+      HoldsTold m key kept t k j d
   holds_grown t k j c d h grown same = record {
-    told = λ y here keeps. place_longer (flat_map (own_told m key y) (numbers_from k j)) c.columns.told d.columns.told (place_of key y)
-        (grown.told (place_of key y)) (h.told y here keeps);
-    loads = λ y here keeps. place_longer (flat_map (own_loads m key y) (numbers_from k j)) c.columns.loads d.columns.loads (place_of key y)
-        (grown.loads (place_of key y)) (h.loads y here keeps);
+    told = λ y here keeps. place_longer (flat_map (own_told m key y) (numbers_from k j)) c.columns.told d.columns.told (column_place key y)
+        (grown.told (column_place key y)) (h.told y here keeps);
+    loads = λ y here keeps. place_longer (flat_map (own_loads m key y) (numbers_from k j)) c.columns.loads d.columns.loads (column_place key y)
+        (grown.loads (column_place key y)) (h.loads y here keeps);
     steps = subst (λ (f : List ℕ). BeginsWith (map (own_steps m key t) (numbers_from k j)) f) same h.steps;
   }
 
   module _ (kinds : List ColumnKind) (places : HavePlaces m key kept kinds) where
-    pub further : (t k j : ℕ) → put_items first kept.told kept.loads (own_items m key t (k + j)) (filled m key kept kinds t k j)
-        ≡ filled m key kept kinds t k (suc j)
+    pub further : (t k j : ℕ) → put_items first kept.told kept.loads (own_items m key t (k + j)) (columns_filled m key kept kinds t k j)
+        ≡ columns_filled m key kept kinds t k (suc j)
     further t k j =
         sym (put_all first kept.told kept.loads (items_since m key kept t k j) (own_items m key t (k + j)) (nothing_kept kinds))
         ∙ ap (λ (is : List Item). put_items first kept.told kept.loads is (nothing_kept kinds)) (sym since_more)
@@ -91,12 +94,12 @@ module _ (m : Marks) (key : EpochKey) (kept : Kept) where
             (flat_map-cons (own_items m key t) (k + j) [] ∙ append-nil (own_items m key t (k + j)))
 
     told_there : (t k j : ℕ) → 0 < t → (y : ℕ) → stage_of program plan y ≡ t → kept.told y ≡ true →
-        PlaceBegins (flat_map (own_told m key y) (numbers_from k j)) (filled m key kept kinds t k j).told (place_of key y)
+        PlaceBegins (flat_map (own_told m key y) (numbers_from k j)) (columns_filled m key kept kinds t k j).told (column_place key y)
     told_there t k j some y here keeps =
         let w = since_whole m key t k j some in (
           told_in y (items_since m key kept t k j),
           told_held first kept.told kept.loads y (site_from program plan y t here some) keeps (items_since m key kept t k j) w.from (nothing_kept kinds) []
-              (nothing_there _ (λ kind. refl) kinds (place_of key y) (places.0 y keeps)),
+              (nothing_there _ (λ kind. refl) kinds (column_place key y) (places.0 y keeps)),
           (
             [],
             told_since m key t k j y ∙ ap (λ (u : ℕ). flat_map (λ (n : ℕ). told_in y (own_items m key u n)) (numbers_from k j)) (sym here)
@@ -105,15 +108,16 @@ module _ (m : Marks) (key : EpochKey) (kept : Kept) where
         )
 
     loads_there : (t k j : ℕ) → 0 < t → (y : ℕ) → stage_of program plan y ≡ t → kept.loads y ≡ true →
-        PlaceBegins (flat_map (own_loads m key y) (numbers_from k j)) (filled m key kept kinds t k j).loads (place_of key y)
+        PlaceBegins (flat_map (own_loads m key y) (numbers_from k j)) (columns_filled m key kept kinds t k j).loads (column_place key y)
     loads_there t k j some y here keeps =
         let w = since_whole m key t k j some in (
           loads_told y [] (items_since m key kept t k j),
-          loads_held first kept.told kept.loads y (site_from program plan y t here some) keeps (items_since m key kept t k j) w.from (nothing_kept kinds) [] [] (
-            nothing_there _ (λ kind. refl) kinds (place_of key y) (places.1 y keeps),
-            nothing_there _ (λ kind. refl) kinds (place_of key y)
-                (places.1 y keeps),
-          ),
+          loads_held first kept.told kept.loads y (site_from program plan y t here some) keeps (items_since m key kept t k j) w.from
+              (nothing_kept kinds) [] [] (
+                nothing_there _ (λ kind. refl) kinds (column_place key y) (places.1 y keeps),
+                nothing_there _ (λ kind. refl) kinds (column_place key y)
+                    (places.1 y keeps),
+              ),
           (
             [],
             loads_since m key t k j y some ∙ ap (λ (u : ℕ). flat_map (λ (n : ℕ). loads_told y [] (own_items m key u n)) (numbers_from k j)) (sym here)

@@ -1,5 +1,6 @@
 -- The judge goes from iteration to iteration of a batch.
-use Rattle.dp_semantics.proofs.Names.{◌≡◌, sym, ap, ◌∙◌, subst, arith, ℕ, suc, ◌+◌, ◌-◌, ◌≤◌, Bool, true, false, not, nat_le, le-leb, List, ◌++◌, ℤ, length, flat_map, Stmt, Load, fits_plan}
+use Rattle.dp_semantics.proofs.Names.{◌≡◌, sym, ap, ◌∙◌, subst, arith, ℕ, suc, ◌+◌, ◌-◌, ◌≤◌, Bool, true, false, not, nat_le, le-leb, List, ◌++◌, ℤ, length}
+use Rattle.dp_semantics.proofs.Names.{flat_map, Stmt, Load, fits_plan}
 use Rattle.dp_tree.specs.Inlined.{IsInlined}
 use Rattle.dp_tree.specs.Numbering.{numbers_from}
 use Rattle.dp_semantics.specs.EpochKey.{EpochKey}
@@ -13,7 +14,7 @@ use Rattle.dp_lean.specs.LeanJudge.{LeanJudging, LeanJudgement, Holds}
 use Rattle.dp_lean_epoch.specs.Own.{steps_at, told_upto, loads_upto}
 use Rattle.dp_lean_epoch.specs.Coming.{LeanJudges}
 use Rattle.dp_lean_epoch.specs.Steps.{without_locals}
-use Rattle.dp_lean_epoch.specs.JudgeSteps.{lean_carried, lean_verdict_by, Judged}
+use Rattle.dp_lean_epoch.specs.JudgeSteps.{lean_carried, lean_verdict_by, JudgedAsDefined}
 use Rattle.dp_lean_epoch.specs.Midway.{JudgeMidway, JudgesFurther, JudgeMidwaySteps}
 use Rattle.dp_lean_epoch.proofs.Queueing.{come_one_by_one}
 use Rattle.dp_lean_epoch.proofs.JudgeStepping.{judge_steps}
@@ -35,7 +36,7 @@ module _ (key : EpochKey) (inlined : IsInlined key.program) (fits : fits_plan ke
     abbrev loads_behind : ℕ → List (List Load)
     loads_behind y = flat_map (loads_upto m key all y) (numbers_from ((k + i) + 1) j) ++ more_loads y
 
-    module _ (end : LeanJudgement) (judged : Judged m key (k + i) behind loads_behind end) where
+    module _ (end : LeanJudgement) (judged : JudgedAsDefined m key (k + i) behind loads_behind end) where
       fuel_is : key.fuel - steps ≡ key.fuel - (state_at key (k + i)).steps
       fuel_is = ap (λ (n : ℕ). key.fuel - n) st.counted
 

@@ -1,5 +1,6 @@
 -- The lean judging of an iteration decides the definition's verdict.
-use Rattle.dp_semantics.proofs.Names.{◌≡◌, refl, sym, ap, ◌∙◌, subst, arith, leb-true, le-leb, ℕ, suc, ◌+◌, ◌<◌, ◌≤◌, Bool, true, false, nat_le, List, [], ◌++◌, ℤ, length, Option, Some, None, Stmt, Load, Clean, Unclean, Judgement, applied, last, fits_plan}
+use Rattle.dp_semantics.proofs.Names.{◌≡◌, refl, sym, ap, ◌∙◌, subst, arith, leb-true, le-leb, ℕ, suc, ◌+◌, ◌<◌, ◌≤◌, Bool, true, false, nat_le, List, [], ◌++◌}
+use Rattle.dp_semantics.proofs.Names.{ℤ, length, Option, Some, None, Stmt, Load, Clean, Unclean, Judgement, applied, last, fits_plan}
 use Rattle.dp_tree.specs.Inlined.{IsInlined}
 use Rattle.dp_semantics.specs.EpochKey.{EpochKey}
 use Rattle.dp_semantics.specs.EpochVerdicts.{JudgeState, Carried, Verdict, Commit, Again, after_judgement, verdict_by, judgement_of, verdict_at, state_at}
@@ -17,7 +18,7 @@ use Rattle.dp_lean.proofs.Coming.{packets_come}
 use Rattle.dp_lean.proofs.GoingOn.{memories_go_on}
 use Rattle.dp_lean_epoch.specs.Own.{at_stage, Arrives, steps_at}
 use Rattle.dp_lean_epoch.specs.Steps.{without_locals}
-use Rattle.dp_lean_epoch.specs.JudgeSteps.{fuel_left, again_at, lean_carried, lean_verdict_by, CommitsAs, Judged, JudgeSteps, VoidsRecover}
+use Rattle.dp_lean_epoch.specs.JudgeSteps.{fuel_before, again_at, lean_carried, lean_verdict_by, CommitsAs, JudgedAsDefined, JudgeSteps, VoidsRecover}
 use Rattle.dp_lean_epoch.proofs.Arriving.{upto_is}
 use Rattle.dp_lean_epoch.proofs.StepCounts.{steps_are}
 use Rattle.dp_lean_epoch.proofs.Stepping.{queued}
@@ -36,7 +37,7 @@ module _ (key : EpochKey) (inlined : IsInlined key.program) (fits : fits_plan ke
   agrees n goes = net_right program plan inlined fits key refl refl pays n goes
 
   judgement_is : (n : ℕ) → GoesOnTo key n →
-      net_judgement_of m key n ≡ net_judge program plan m (fuel_left m key n) (state_at key n).cells (at_stage m key all n).packet
+      net_judgement_of m key n ≡ net_judge program plan m (fuel_before m key n) (state_at key n).cells (at_stage m key all n).packet
   judgement_is n goes = let a = agrees n goes in ap (λ (s : JudgeState). net_judgement_in m key n s) a.state
 
   verdict_is : (n : ℕ) → GoesOnTo key n → (o : Option NetAgreed) → net_judgement_of m key n ≡ o → SaysTheSame key (verdict_at key n) (net_verdict_by m key n o)
@@ -89,23 +90,23 @@ module _ (key : EpochKey) (inlined : IsInlined key.program) (fits : fits_plan ke
           loads_left = judged.loads_left;
         }
 
-    enough : all_steps lists ≤ fuel_left m key n → nat_le (steps_at m key n) (fuel_left m key n) ≡ true
-    enough low = le-leb (steps_at m key n) (fuel_left m key n) (subst (λ (k : ℕ). k ≤ fuel_left m key n) (steps_are m key n alive) low)
+    enough : all_steps lists ≤ fuel_before m key n → nat_le (steps_at m key n) (fuel_before m key n) ≡ true
+    enough low = le-leb (steps_at m key n) (fuel_before m key n) (subst (λ (k : ℕ). k ≤ fuel_before m key n) (steps_are m key n alive) low)
 
-    too_many : fuel_left m key n < all_steps lists → steps_at m key n ≤ fuel_left m key n → ⊥
+    too_many : fuel_before m key n < all_steps lists → steps_at m key n ≤ fuel_before m key n → ⊥
     too_many high low = let same = steps_are m key n alive in omega (arith, high, low, same)
 
     decided : (o : Option NetAgreed) (end : LeanJudgement) → net_judgement_of m key n ≡ o →
-        JudgesAlike program plan m (fuel_left m key n) lists more more_loads cells o end → Judged m key n more more_loads end
+        JudgesAlike program plan m (fuel_before m key n) lists more more_loads cells o end → JudgedAsDefined m key n more more_loads end
     decided o end is (spent high) = record {
-      verdict = by (nat_le (steps_at m key n) (fuel_left m key n)) refl;
+      verdict = by (nat_le (steps_at m key n) (fuel_before m key n)) refl;
       next = λ f e low. absurd (too_many high low);
     }
       where
-        by : (b : Bool) → nat_le (steps_at m key n) (fuel_left m key n) ≡ b → SaysTheSame key (verdict_at key n) (lean_verdict_by m key n b end)
+        by : (b : Bool) → nat_le (steps_at m key n) (fuel_before m key n) ≡ b → SaysTheSame key (verdict_at key n) (lean_verdict_by m key n b end)
         by false e = verdict_is n goes None is
-        by true e = absurd (too_many high (leb-true (steps_at m key n) (fuel_left m key n) e))
-    decided o end is differs = record { verdict = by (nat_le (steps_at m key n) (fuel_left m key n)); next = λ f e low. absurd (differs_holds f e) }
+        by true e = absurd (too_many high (leb-true (steps_at m key n) (fuel_before m key n) e))
+    decided o end is differs = record { verdict = by (nat_le (steps_at m key n) (fuel_before m key n)); next = λ f e low. absurd (differs_holds f e) }
       where
         differs_holds : (f : LeanJudging) → Differs ≡ Holds f → ⊥
         differs_holds f e = absurd (cc e)
@@ -127,12 +128,12 @@ module _ (key : EpochKey) (inlined : IsInlined key.program) (fits : fits_plan ke
 
   pub judge_steps : JudgeSteps m key
   judge_steps n goes alive memory stands queues more brought loads more_loads loads_brought =
-      let r = lean_judges program plan inlined fits pays (fuel_left m key n) (at_stage m key all n).packet alive
+      let r = lean_judges program plan inlined fits pays (fuel_before m key n) (at_stage m key all n).packet alive
       (packets_come program plan inlined fits key refl refl pays all n alive) (state_at key n).cells memory stands queues more
       (queued key inlined fits pays all n alive queues more brought) loads more_loads loads_queued in (
         r.0,
         r.1,
-        decided n goes alive more more_loads (net_judge program plan m (fuel_left m key n) (state_at key n).cells (at_stage m key all n).packet) r.0
+        decided n goes alive more more_loads (net_judge program plan m (fuel_before m key n) (state_at key n).cells (at_stage m key all n).packet) r.0
             (judgement_is n goes) r.2,
       )
     where

@@ -1,5 +1,6 @@
 -- The memories with which a stage begins its iterations.
-use Rattle.dp_semantics.proofs.Names.{◌≡◌, refl, ◌∙◌, subst, ℕ, zero, suc, true, false, ℤ, List, Option, Some, None, slice_get, is_par, is_replicated, StageKind, Par, Seq, Epoch, cleared}
+use Rattle.dp_semantics.proofs.Names.{◌≡◌, refl, ◌∙◌, subst, ℕ, zero, suc, true, false, ℤ, List, Option, Some, None, slice_get, is_par, is_replicated}
+use Rattle.dp_semantics.proofs.Names.{StageKind, Par, Seq, Epoch, cleared}
 use Rattle.dp_semantics.specs.EpochKey.{EpochKey, epoch_of}
 use Rattle.dp_net.specs.NetItems.{Marks}
 use Rattle.dp_net.specs.NetPackets.{NetPassed, net_passed, net_at_kind, net_at_sequential}

@@ -1,5 +1,6 @@
 -- A stage goes from iteration to iteration of a batch.
-use Rattle.dp_semantics.proofs.Names.{◌≡◌, inl, inr, sym, ap, ◌∙◌, subst, arith, cases_eq, ℕ, suc, ◌+◌, Bool, true, List, [], ◌∷◌, ◌++◌, ℤ, map, sum_by, flat_map, Stmt, fits_plan, first_site}
+use Rattle.dp_semantics.proofs.Names.{◌≡◌, inl, inr, sym, ap, ◌∙◌, subst, arith, cases_eq, ℕ, suc, ◌+◌, Bool, true, List, [], ◌∷◌, ◌++◌, ℤ, map, sum_by}
+use Rattle.dp_semantics.proofs.Names.{flat_map, Stmt, fits_plan, first_site}
 use Rattle.dp_tree.specs.Inlined.{IsInlined}
 use Rattle.dp_tree.specs.Numbering.{numbers_from}
 use Rattle.dp_semantics.specs.EpochKey.{EpochKey}
@@ -12,7 +13,7 @@ use Rattle.dp_columns.specs.Columned.{Columned}
 use Rattle.dp_columns.specs.Telling.{put_items}
 use Rattle.dp_lean_epoch.specs.Own.{at_stage, own_items, own_steps, told_upto}
 use Rattle.dp_lean_epoch.specs.Coming.{LeanStands}
-use Rattle.dp_lean_epoch.specs.Holding.{Kept, StageColumns, Holds, HavePlaces, filled}
+use Rattle.dp_lean_epoch.specs.Holding.{Kept, StageColumns, HoldsTold, HavePlaces, columns_filled}
 use Rattle.dp_lean_epoch.specs.Steps.{ArrivesAs, StepEnds, without_locals}
 use Rattle.dp_lean_epoch.specs.Laws.{ColumnsFill}
 use Rattle.dp_lean_epoch.specs.Midway.{with_turn, Midway, Further, GoesFurther, MidwaySteps}
@@ -38,7 +39,7 @@ module _ (key : EpochKey) (inlined : IsInlined key.program) (fits : fits_plan ke
     behind y = flat_map (told_upto m key s y) (numbers_from ((k + i) + 1) j) ++ more y
 
     module _ (f : LeanTurn) (a : ArrivesAs m key s (k + i) behind f) where
-      columns_next : (with_turn m key kept kinds c f).columns ≡ filled m key kept kinds (suc s) k (suc i)
+      columns_next : (with_turn m key kept kinds c f).columns ≡ columns_filled m key kept kinds (suc s) k (suc i)
       columns_next =
           ap (λ (own : List Item). put_items (first_site program plan) kept.told kept.loads own c.columns) a.own
           ∙ ap (put_items (first_site program plan) kept.told kept.loads (own_items m key (suc s) (k + i))) st.columns
@@ -48,12 +49,12 @@ module _ (key : EpochKey) (inlined : IsInlined key.program) (fits : fits_plan ke
       steps_next = ap (λ (own : List Item). c.steps ++ sum_by steps_in own ∷ []) a.own
           ∙ ap (λ (ns : List ℕ). ns ++ own_steps m key (suc s) (k + i) ∷ []) st.steps ∙ (let fs = fill in fs.steps (suc s) k i)
 
-      held : Holds m key kept (suc s) k (suc i) (with_turn m key kept kinds c f)
+      held : HoldsTold m key kept (suc s) k (suc i) (with_turn m key kept kinds c f)
       held =
           let fs = fill in
-          subst (λ (cs : Columned). Holds m key kept (suc s) k (suc i) (record { columns = cs; steps = (with_turn m key kept kinds c f).steps }))
+          subst (λ (cs : Columned). HoldsTold m key kept (suc s) k (suc i) (record { columns = cs; steps = (with_turn m key kept kinds c f).steps }))
           (sym columns_next)
-          (subst (λ (ns : List ℕ). Holds m key kept (suc s) k (suc i) (record { columns = filled m key kept kinds (suc s) k (suc i); steps = ns }))
+          (subst (λ (ns : List ℕ). HoldsTold m key kept (suc s) k (suc i) (record { columns = columns_filled m key kept kinds (suc s) k (suc i); steps = ns }))
           (sym steps_next)
           (fs.holds (suc s) k (suc i) (omega arith)))
 

@@ -1,12 +1,17 @@
 -- What a stage tells itself is of the region's sites, and each event's loads stand before what it did.
-use Rattle.dp_semantics.proofs.Names.{◌≡◌, inl, inr, refl, sym, ap, ◌∙◌, subst, append_assoc, append-nil, arith, ℕ, zero, suc, ◌-◌, ◌<◌, ◌≤◌, ◌==◌, Bool, true, false, ◌&&◌, if◌then◌else◌, nat_le, leb-true, eq-eqb, eqb-true, ne_eqb, cases_eq, List, [], ◌∷◌, ◌++◌, ℤ, length, drop, map, Option, Some, None, Ok, Err, slice_index, slice_set, nat_lt, applied, ◌+◌, Stmt, out-Stmt, Stmt-F, Program, Plan, Word, Load, Evaluated, evaluated, Event, Effect, site_of, stage_of, first_site, is_checked, event_as_assumed, load_words, done_word, words_of, is_load_of, is_done_of}
+use Rattle.dp_semantics.proofs.Names.{◌≡◌, inl, inr, refl, sym, ap, ◌∙◌, subst, append_assoc, append-nil, arith, ℕ, zero, suc, ◌-◌, ◌<◌, ◌≤◌, ◌==◌, Bool, true}
+use Rattle.dp_semantics.proofs.Names.{false, ◌&&◌, if◌then◌else◌, nat_le, leb-true, eq-eqb, eqb-true, ne_eqb, cases_eq, List, [], ◌∷◌, ◌++◌, ℤ, length, drop}
+use Rattle.dp_semantics.proofs.Names.{map, Option, Some, None, Ok, Err, slice_index, slice_set, nat_lt, applied, ◌+◌, Stmt, out-Stmt, Stmt-F, Program, Plan}
+use Rattle.dp_semantics.proofs.Names.{Word, Load, Evaluated, evaluated, Event, Effect, site_of, stage_of, first_site, is_checked, event_as_assumed, load_words}
+use Rattle.dp_semantics.proofs.Names.{done_word, words_of, is_load_of, is_done_of}
 use Rattle.dp_semantics.specs.Verdict.{effect_in}
 use Rattle.dp_semantics.proofs.Ways.{event_of}
 use Rattle.dp_semantics.proofs.Taking.{load_here, done_no_load}
-use Rattle.dp_net.specs.Quiet.{Outcome, Through, Broke}
+use Rattle.dp_net.specs.Quiet.{BlockOutcome, Through, Broke}
 unfoldable use Rattle.dp_net.specs.Quiet.{quiet_from}
 use Rattle.dp_net.specs.NetItems.{Marks, Item, Said, Net, net_of, weights, said_all, NetTaken, net_taken_from}
-use Rattle.dp_net.specs.NetRun.{NetTurn, NetEnded, net_turned, net_past, net_own_step, net_consumed_step, net_made, net_met, items_left, net_step_by, net_step, net_by, net_at}
+use Rattle.dp_net.specs.NetRun.{NetTurn, NetEnded, net_turned, net_past, net_own_step, net_consumed_step, net_made, net_met, items_left, net_step_by, net_step}
+use Rattle.dp_net.specs.NetRun.{net_by, net_at}
 unfoldable use Rattle.dp_net.specs.NetRun.{net_from}
 use Rattle.dp_lean.specs.Queues.{loads_told}
 use Rattle.dp_columns.specs.Telling.{AllFrom}
@@ -149,7 +154,7 @@ module _ (p : Program) (plan : Plan) where
     taken_keeps c x rest h None = tt
     taken_keeps c x rest h (Some t) = λ w. w
 
-    made_keeps : (c : NetTurn) (site : ℕ) (rest : List Stmt) → stage_of p plan site ≡ s → (o : Outcome) → Keeps c (net_made p plan m site c rest o)
+    made_keeps : (c : NetTurn) (site : ℕ) (rest : List Stmt) → stage_of p plan site ≡ s → (o : BlockOutcome) → Keeps c (net_made p plan m site c rest o)
     made_keeps c site rest here Broke = tt
     made_keeps c site rest here (Through events cells) =
         λ w. whole_join first c.own (Net site (length events) (net_of (m.hides (stage_of p plan site)) (map effect_in events)) ∷ []) w

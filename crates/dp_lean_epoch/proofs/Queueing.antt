@@ -1,5 +1,7 @@
 -- The queues of what is sent of a batch begin with what its iterations tell.
-use Rattle.dp_semantics.proofs.Names.{◌≡◌, refl, sym, ap, ◌∙◌, subst, append_assoc, arith, leb-true, ℕ, zero, suc, ◌+◌, ◌-◌, ◌<◌, ◌≤◌, Bool, true, false, if◌then◌else◌, nat_le, List, [], ◌∷◌, ◌++◌, length, drop, drop-append_seam, get_or, get_or_append_left, slice_get, slice_get-get_or, slice_get_within, sum_by, sum_by-cons, map, length-map, Some, Load, stage_of, flat_map}
+use Rattle.dp_semantics.proofs.Names.{◌≡◌, refl, sym, ap, ◌∙◌, subst, append_assoc, arith, leb-true, ℕ, zero, suc, ◌+◌, ◌-◌, ◌<◌, ◌≤◌, Bool, true, false}
+use Rattle.dp_semantics.proofs.Names.{if◌then◌else◌, nat_le, List, [], ◌∷◌, ◌++◌, length, drop, drop-append_seam, get_or, get_or_append_left, slice_get}
+use Rattle.dp_semantics.proofs.Names.{slice_get-get_or, slice_get_within, sum_by, sum_by-cons, map, length-map, Some, Load, stage_of, flat_map}
 use Rattle.std.proofs.lemmas.List.Concat.{flat_map-cons}
 use Rattle.std.proofs.lemmas.Option.{get_or_from_slice_get}
 use Rattle.dp_tree.specs.Numbering.{numbers_from}
@@ -9,8 +11,8 @@ use Rattle.dp_net.specs.NetItems.{Marks}
 use Rattle.dp_net.specs.Batches.{batch_begin}
 use Rattle.dp_lean.specs.Queues.{Told, told_in, loads_told}
 use Rattle.dp_lean_epoch.specs.Own.{own_items, own_steps, steps_at, own_told, own_loads, told_upto, loads_upto}
-use Rattle.dp_lean_epoch.specs.Coming.{Coming, LoadsComing}
-use Rattle.dp_lean_epoch.specs.Holding.{Kept, StageColumns, BeginsWith, PlaceBegins, place_of, KeepsEnough, Holds}
+use Rattle.dp_lean_epoch.specs.Coming.{QueuesBring, LoadsComing}
+use Rattle.dp_lean_epoch.specs.Holding.{Kept, StageColumns, BeginsWith, PlaceBegins, column_place, KeepsEnough, HoldsTold}
 use Rattle.dp_lean_epoch.specs.LeanBatch.{LeanItem, no_columns, columns_of, queue_among, loads_among, steps_among, IsLeanBatch}
 use Rattle.dp_lean_epoch.specs.Laws.{ComeOneByOne, QueuesCome, BatchesCome}
 
@@ -56,29 +58,29 @@ module _ (m : Marks) (key : EpochKey) where
     ns = numbers_from (batch_begin key cap b) item.stood.iterations
 
     -- the columns of a stage up to s
-    there : (t : ℕ) → suc t ≤ s → Holds m key kept (suc t) (batch_begin key cap b) item.stood.iterations (columns_of item.stages (suc t))
+    there : (t : ℕ) → suc t ≤ s → HoldsTold m key kept (suc t) (batch_begin key cap b) item.stood.iterations (columns_of item.stages (suc t))
     there t low =
         let size = is.size in
         let place : suc t - 1 ≡ t = omega arith in
-        subst (λ (u : ℕ). Holds m key kept (suc t) (batch_begin key cap b) item.stood.iterations (get_or item.stages u no_columns)) (sym place)
+        subst (λ (u : ℕ). HoldsTold m key kept (suc t) (batch_begin key cap b) item.stood.iterations (get_or item.stages u no_columns)) (sym place)
         (is.holds t (get_or item.stages t no_columns) (slice_get-get_or item.stages t no_columns (omega (arith, low, size))))
 
     module _ {X : Type 0} (y : ℕ) (own : ℕ → List X) (none : stage_of program plan y ≡ 0 → (n : ℕ) → own n ≡ []) (lists : StageColumns → List (List X))
         (begins : (t : ℕ) → stage_of program plan y ≡ suc t → suc t ≤ s →
-        PlaceBegins (flat_map own ns) (lists (columns_of item.stages (suc t))) (place_of key y)) where
+        PlaceBegins (flat_map own ns) (lists (columns_of item.stages (suc t))) (column_place key y)) where
       u : ℕ
       u = stage_of program plan y
 
       abbrev queue : List X
-      queue = get_or (lists (columns_of item.stages (stage_of program plan y))) (place_of key y) []
+      queue = get_or (lists (columns_of item.stages (stage_of program plan y))) (column_place key y) []
 
       of_stage : (t : ℕ) → stage_of program plan y ≡ t → t ≤ s → BeginsWith (flat_map own ns) queue
       of_stage zero e low = (queue, ap (λ (front : List X). front ++ queue) (sym (flat_none own (none e) ns)))
       of_stage (suc t) e low =
           let p = begins t e low in (
             p.2.0,
-            ap (λ (v : ℕ). get_or (lists (columns_of item.stages v)) (place_of key y) []) e
-                ∙ get_or_from_slice_get (lists (columns_of item.stages (suc t))) (place_of key y) p.0 [] p.1 ∙ p.2.1,
+            ap (λ (v : ℕ). get_or (lists (columns_of item.stages v)) (column_place key y) []) e
+                ∙ get_or_from_slice_get (lists (columns_of item.stages (suc t))) (column_place key y) p.0 [] p.1 ∙ p.2.1,
           )
 
       pub comes : queue ≡ flat_map (λ (n : ℕ). if nat_le (stage_of program plan y) s then own n else []) ns
@@ -89,7 +91,7 @@ module _ (m : Marks) (key : EpochKey) where
           by true e = of_stage (stage_of program plan y) refl (leb-true (stage_of program plan y) s e)
           by false e = (queue, ap (λ (front : List X). front ++ queue) (sym (flat_none (λ (n : ℕ). []) (λ n. refl) ns)))
 
-    told_come : Coming m key s (batch_begin key cap b) item.stood.iterations (queue_among key item.stages)
+    told_come : QueuesBring m key s (batch_begin key cap b) item.stood.iterations (queue_among key item.stages)
         (λ (y : ℕ). drop (length (flat_map (told_upto m key s y) ns)) (queue_among key item.stages y))
     told_come y read = comes y (own_told m key y) (λ e n. ap (λ (v : ℕ). told_in y (own_items m key v n)) e) (λ (c : StageColumns). c.columns.told)
         (λ t e low. let h = there t low in h.told y e (enough.told (suc s) y read (omega (arith, e, low))))

@@ -1,5 +1,6 @@
 -- How the iterations of a batch stand, one by one.
-use Rattle.dp_semantics.proofs.Names.{◌≡◌, inl, inr, refl, sym, ap, ◌∙◌, subst, arith, ℕ, zero, suc, ◌+◌, ◌<◌, Bool, true, false, not, if◌then◌else◌, List, [], map, cases_eq}
+use Rattle.dp_semantics.proofs.Names.{◌≡◌, inl, inr, refl, sym, ap, ◌∙◌, subst, arith, ℕ, zero, suc, ◌+◌, ◌<◌, Bool, true, false, not, if◌then◌else◌, List, []}
+use Rattle.dp_semantics.proofs.Names.{map, cases_eq}
 use Rattle.dp_tree.specs.Numbering.{numbers_from}
 use Rattle.dp_semantics.specs.EpochKey.{EpochKey}
 use Rattle.dp_net.specs.NetItems.{Marks}
@@ -7,7 +8,7 @@ use Rattle.dp_net.specs.NetPackets.{NetStatus, NetGoing, NetClosing, NetVoid, Ne
 use Rattle.dp_net.specs.Batches.{is_onward, ends_batch, up_to, batch_begin, batch_size, batch_at}
 use Rattle.dp_net.specs.Follows.{is_void}
 use Rattle.dp_lean_epoch.specs.Own.{at_stage, Arrives}
-use Rattle.dp_lean_epoch.specs.LeanBatch.{Stood, stood_by, stood_in, Stands}
+use Rattle.dp_lean_epoch.specs.LeanBatch.{Stood, stood_by, stood_in, IterationsStand}
 use Rattle.dp_lean_epoch.specs.Laws.{BatchStands, BatchEnds}
 
 going_closing : NetGoing ≡ NetClosing → ⊥
@@ -56,7 +57,8 @@ module _ (m : Marks) (key : EpochKey) (s : ℕ) where
   here : (k : ℕ) → (packet (k + 0)).status ≡ (packet k).status
   here k = let same : k + 0 ≡ k = omega arith in ap (λ (n : ℕ). (packet n).status) same
 
-  behind_going : (k r n : ℕ) (e : NetStatus) → (packet k).status ≡ NetGoing → Stands m key s (k + 1) r (of n e) → Stands m key s k (suc r) (of (suc n) e)
+  behind_going : (k r n : ℕ) (e : NetStatus) → (packet k).status ≡ NetGoing → IterationsStand m key s (k + 1) r (of n e) →
+      IterationsStand m key s k (suc r) (of (suc n) e)
   behind_going k r n e going st = record {
     within = let w = st.within in omega (arith, w);
     going = λ i low. by_going i low;
@@ -73,13 +75,13 @@ module _ (m : Marks) (key : EpochKey) (s : ℕ) where
       by_end : (i : ℕ) → suc i ≡ suc n → (packet (k + i)).status ≡ (if is_void e then NetGoing else e)
       by_end zero same = here k ∙ going ∙ only n (omega (arith, same)) e st
         where
-          only : (n : ℕ) → n ≡ 0 → (e : NetStatus) → Stands m key s (k + 1) r (of n e) → NetGoing ≡ (if is_void e then NetGoing else e)
+          only : (n : ℕ) → n ≡ 0 → (e : NetStatus) → IterationsStand m key s (k + 1) r (of n e) → NetGoing ≡ (if is_void e then NetGoing else e)
           only n none NetGoing st = refl
           only n none NetVoid st = refl
           only n none NetClosing st = let some : 0 < n = st.closing refl in absurd (omega (arith, some, none))
       by_end (suc i) same = status_at k i ∙ st.at_end i (omega (arith, same))
 
-  stands_so : (r k : ℕ) → Stands m key s k r (stood_from k r)
+  stands_so : (r k : ℕ) → IterationsStand m key s k r (stood_from k r)
   stands_so zero k = record {
     within = omega arith;
     going = λ i low. absurd (omega (arith, low));
@@ -90,10 +92,11 @@ module _ (m : Marks) (key : EpochKey) (s : ℕ) where
   }
   stands_so (suc r) k = by (packet k).status refl (stands_so r (k + 1))
     where
-      by : (status : NetStatus) → (packet k).status ≡ status → Stands m key s (k + 1) r (stood_from (k + 1) r) → Stands m key s k (suc r) (stood_from k (suc r))
-      by NetGoing e rest = subst (Stands m key s k (suc r)) (sym (first_going k r e))
+      by : (status : NetStatus) → (packet k).status ≡ status → IterationsStand m key s (k + 1) r (stood_from (k + 1) r) →
+          IterationsStand m key s k (suc r) (stood_from k (suc r))
+      by NetGoing e rest = subst (IterationsStand m key s k (suc r)) (sym (first_going k r e))
           (behind_going k r (stood_from (k + 1) r).iterations (stood_from (k + 1) r).ends e rest)
-      by NetClosing e rest = subst (Stands m key s k (suc r)) (sym (first_closing k r e)) (record {
+      by NetClosing e rest = subst (IterationsStand m key s k (suc r)) (sym (first_closing k r e)) (record {
         within = omega arith;
         going = λ i low. absurd (omega (arith, low));
         at_end = λ i same. let none : i ≡ 0 = omega (arith, same) in ap (λ (j : ℕ). (packet (k + j)).status) none ∙ here k ∙ e;
@@ -101,7 +104,7 @@ module _ (m : Marks) (key : EpochKey) (s : ℕ) where
         closing = λ q. omega arith;
         void = λ q. absurd (closing_void q);
       })
-      by NetVoid e rest = subst (Stands m key s k (suc r)) (sym (first_void k r e)) (record {
+      by NetVoid e rest = subst (IterationsStand m key s k (suc r)) (sym (first_void k r e)) (record {
         within = omega arith;
         going = λ i low. absurd (omega (arith, low));
         at_end = λ i same. absurd (omega (arith, same));
@@ -111,13 +114,14 @@ module _ (m : Marks) (key : EpochKey) (s : ℕ) where
       })
 
   -- none came to its end, though the first one isn't void
-  none_there : (r k : ℕ) (e : NetStatus) → ((packet k).status ≡ NetVoid → ⊥) → Stands m key s k (suc r) (of 0 e) → ⊥
+  none_there : (r k : ℕ) (e : NetStatus) → ((packet k).status ≡ NetVoid → ⊥) → IterationsStand m key s k (suc r) (of 0 e) → ⊥
   none_there r k NetGoing alive st = let q : 0 ≡ suc r = st.whole refl in absurd (omega (arith, q))
   none_there r k NetClosing alive st = let q : 0 < 0 = st.closing refl in absurd (omega (arith, q))
   none_there r k NetVoid alive st = alive (sym (here k) ∙ (st.void refl).1)
 
   -- behind the first one, which goes on
-  past_going : (k r n : ℕ) (e : NetStatus) → (packet k).status ≡ NetGoing → Stands m key s k (suc r) (of (suc n) e) → Stands m key s (k + 1) r (of n e)
+  past_going : (k r n : ℕ) (e : NetStatus) → (packet k).status ≡ NetGoing → IterationsStand m key s k (suc r) (of (suc n) e) →
+      IterationsStand m key s (k + 1) r (of n e)
   past_going k r n e going st = record {
     within = let w = st.within in omega (arith, w);
     going = λ i low. sym (status_at k i) ∙ st.going (suc i) (omega (arith, low));
@@ -127,30 +131,31 @@ module _ (m : Marks) (key : EpochKey) (s : ℕ) where
     void = λ q. let v = st.void q in (omega (arith, v), sym (status_at k n) ∙ v.1);
   }
     where
-      some : (n : ℕ) (e : NetStatus) → e ≡ NetClosing → Stands m key s k (suc r) (of (suc n) e) → 0 < n
+      some : (n : ℕ) (e : NetStatus) → e ≡ NetClosing → IterationsStand m key s k (suc r) (of (suc n) e) → 0 < n
       some (suc n) e q st = omega arith
       some zero NetClosing q st = absurd (going_closing (sym (here k ∙ going) ∙ st.at_end 0 refl))
       some zero NetGoing q st = absurd (going_closing q)
       some zero NetVoid q st = absurd (closing_void (sym q))
 
   -- the first one ends the batch, so it is the last
-  last_there : (k r n : ℕ) (e : NetStatus) → ((packet k).status ≡ NetGoing → ⊥) → Stands m key s k (suc r) (of (suc n) e) → (n ≡ 0) × ((packet k).status ≡ e)
+  last_there : (k r n : ℕ) (e : NetStatus) → ((packet k).status ≡ NetGoing → ⊥) → IterationsStand m key s k (suc r) (of (suc n) e) → (n ≡ 0)
+      × ((packet k).status ≡ e)
   last_there k r (suc n) e off st = absurd (off (sym (here k) ∙ st.going 0 (omega arith)))
   last_there k r zero NetGoing off st = absurd (off (sym (here k) ∙ st.at_end 0 refl))
   last_there k r zero NetClosing off st = (refl, sym (here k) ∙ st.at_end 0 refl)
   last_there k r zero NetVoid off st = absurd (off (sym (here k) ∙ st.at_end 0 refl))
 
-  stands_only : (r k n : ℕ) (e : NetStatus) → Stands m key s k r (of n e) → of n e ≡ stood_from k r
+  stands_only : (r k n : ℕ) (e : NetStatus) → IterationsStand m key s k r (of n e) → of n e ≡ stood_from k r
   stands_only zero k n e st = let w = st.within in by n e (omega (arith, w)) st
     where
-      by : (n : ℕ) (e : NetStatus) → n ≡ 0 → Stands m key s k 0 (of n e) → of n e ≡ of 0 NetGoing
+      by : (n : ℕ) (e : NetStatus) → n ≡ 0 → IterationsStand m key s k 0 (of n e) → of n e ≡ of 0 NetGoing
       by n NetGoing none st = ap (λ (j : ℕ). of j NetGoing) none
       by n NetClosing none st = let some : 0 < n = st.closing refl in absurd (omega (arith, some, none))
       by n NetVoid none st = let v : n < 0 = (st.void refl).0 in absurd (omega (arith, v))
   stands_only (suc r) k n e st = by (packet k).status refl n e st (λ j f. stands_only r (k + 1) j f)
     where
-      by : (status : NetStatus) → (packet k).status ≡ status → (n : ℕ) (e : NetStatus) → Stands m key s k (suc r) (of n e) →
-          ((j : ℕ) (f : NetStatus) → Stands m key s (k + 1) r (of j f) → of j f ≡ stood_from (k + 1) r) → of n e ≡ stood_from k (suc r)
+      by : (status : NetStatus) → (packet k).status ≡ status → (n : ℕ) (e : NetStatus) → IterationsStand m key s k (suc r) (of n e) →
+          ((j : ℕ) (f : NetStatus) → IterationsStand m key s (k + 1) r (of j f) → of j f ≡ stood_from (k + 1) r) → of n e ≡ stood_from k (suc r)
       by NetGoing is zero e st go = absurd (none_there r k e (λ q. going_void (sym is ∙ q)) st)
       by NetGoing is (suc n) e st go =
           ap (λ (x : Stood). of (suc x.iterations) x.ends) (go n e (past_going k r n e is st)) ∙ sym (first_going k r is)
@@ -165,7 +170,7 @@ module _ (m : Marks) (key : EpochKey) (s : ℕ) where
           let l = last_there k r n e (λ q. going_void (sym q ∙ is)) st in
           absurd (void_last n e l.0 (sym l.1 ∙ is) st)
         where
-          void_last : (n : ℕ) (e : NetStatus) → n ≡ 0 → e ≡ NetVoid → Stands m key s k (suc r) (of (suc n) e) → ⊥
+          void_last : (n : ℕ) (e : NetStatus) → n ≡ 0 → e ≡ NetVoid → IterationsStand m key s k (suc r) (of (suc n) e) → ⊥
           void_last n NetGoing none q st = going_void q
           void_last n NetClosing none q st = closing_void q
           void_last (suc n) NetVoid none q st = absurd (omega (arith, none))
@@ -173,7 +178,7 @@ module _ (m : Marks) (key : EpochKey) (s : ℕ) where
 
 module _ (m : Marks) (key : EpochKey) where
   -- of the iterations that came to their end none is void
-  pub alive_at : (s k r : ℕ) (x : Stood) → Stands m key s k r x → (i : ℕ) → i < x.iterations → Arrives m key s (k + i)
+  pub alive_at : (s k r : ℕ) (x : Stood) → IterationsStand m key s k r x → (i : ℕ) → i < x.iterations → Arrives m key s (k + i)
   alive_at s k r x st i low = elim (cases_eq (suc i) x.iterations) [
     | inl same ↦ ap is_void (st.at_end i same) ∙ ending x.ends
     | inr other ↦ ap is_void (st.going i (omega (arith, low, other)))

@@ -1,5 +1,6 @@
 -- A stage's code comes to an end at each iteration whose packet isn't void, as the stage does.
-use Rattle.dp_semantics.proofs.Names.{◌≡◌, refl, sym, ap, ◌∙◌, subst, arith, ℕ, suc, ◌≤◌, Bool, true, false, List, ◌++◌, ℤ, length, Option, Some, None, not-true, cases_Bool, inl, inr, Stmt, is_replicated, fits_plan}
+use Rattle.dp_semantics.proofs.Names.{◌≡◌, refl, sym, ap, ◌∙◌, subst, arith, ℕ, suc, ◌≤◌, Bool, true, false, List, ◌++◌, ℤ, length, Option, Some, None}
+use Rattle.dp_semantics.proofs.Names.{not-true, cases_Bool, inl, inr, Stmt, is_replicated, fits_plan}
 use Rattle.dp_tree.specs.Inlined.{IsInlined}
 use Rattle.dp_semantics.specs.EpochKey.{EpochKey}
 use Rattle.dp_net.specs.NetItems.{Marks, item_list}

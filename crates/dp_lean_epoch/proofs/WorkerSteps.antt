@@ -1,5 +1,9 @@
 -- A worker's turn beside that of the stage before it, at one statement: both do the same, but at the worker's own sites.
-use Rattle.dp_semantics.proofs.Names.{◌≡◌, inl, inr, refl, sym, ap, ◌∙◌, subst, append_assoc, append_cancel_left, arith, cases_eq, ℕ, suc, ◌-◌, ◌<◌, ◌≤◌, Bool, true, false, ◌&&◌, ◌||◌, if◌then◌else◌, List, ◌∷◌, ◌++◌, ℤ, length, length-set, Ok, Err, Result, nat_le, slice_set, and_parts, Stmt, out-Stmt, Stmt-F, Program, Plan, Word, Evaluated, evaluated, WithLoads, Effect, site_of, value_of, stored, followed, stage_of, first_site, as_assumed, closes_at, words_of, word_list, Full, Void, Taken, taken_from, Turn, Ended, project_all, Access, accesses, well_nested}
+use Rattle.dp_semantics.proofs.Names.{◌≡◌, inl, inr, refl, sym, ap, ◌∙◌, subst, append_assoc, append_cancel_left, arith, cases_eq, ℕ, suc, ◌-◌, ◌<◌, ◌≤◌, Bool}
+use Rattle.dp_semantics.proofs.Names.{true, false, ◌&&◌, ◌||◌, if◌then◌else◌, List, ◌∷◌, ◌++◌, ℤ, length, length-set, Ok, Err, Result, nat_le, slice_set}
+use Rattle.dp_semantics.proofs.Names.{and_parts, Stmt, out-Stmt, Stmt-F, Program, Plan, Word, Evaluated, evaluated, WithLoads, Effect, site_of, value_of}
+use Rattle.dp_semantics.proofs.Names.{stored, followed, stage_of, first_site, as_assumed, closes_at, words_of, word_list, Full, Void, Taken, taken_from, Turn}
+use Rattle.dp_semantics.proofs.Names.{Ended, project_all, Access, accesses, well_nested}
 unfoldable use Rattle.dp_semantics.proofs.Names.{turn_from}
 use Rattle.dp_semantics.proofs.Each.{Each, each_map, each_split}
 use Rattle.dp_semantics.proofs.Evaluation.{Form, head_loads, head_stores, Readable, evaluated_tracks}

@@ -1,5 +1,6 @@
 -- A worker's turn beside that of the stage before it, from the same memory: they end in memories that are beside each other.
-use Rattle.dp_semantics.proofs.Names.{◌≡◌, ◌⊎◌, inl, inr, sym, ap, subst, arith, cases_order, ℕ, zero, suc, ◌<◌, Bool, false, List, [], ◌∷◌, ℤ, Ok, Stmt, out-Stmt, Stmt-F, Program, Plan, Word, site_of, stage_of, Turn, Ended}
+use Rattle.dp_semantics.proofs.Names.{◌≡◌, ◌⊎◌, inl, inr, sym, ap, subst, arith, cases_order, ℕ, zero, suc, ◌<◌, Bool, false, List, [], ◌∷◌, ℤ, Ok, Stmt}
+use Rattle.dp_semantics.proofs.Names.{out-Stmt, Stmt-F, Program, Plan, Word, site_of, stage_of, Turn, Ended}
 unfoldable use Rattle.dp_semantics.proofs.Names.{turn_from}
 use Rattle.dp_semantics.proofs.Evaluation.{head_stores}
 use Rattle.dp_semantics.proofs.Heads.{head_access}
@@ -32,13 +33,17 @@ module _ (p : Program) (plan : Plan) (input : List ℤ) (s : ℕ) (low : 0 < s) 
   near_in (suc n) k (x ∷ rest) text cells lists own closing mem taken made shut e f facing near q r =
       at_statement (near_in n) k q (cases_order (stage_of p plan (site_of (out-Stmt x)).0) s)
     where
-      at_statement : NearIn p plan input s low laid unfed n → (k : ℕ) → turn_from p plan input s k (before p plan input s low laid unfed (x ∷ rest) cells lists own closing) ≡ Ok e →
+      at_statement : NearIn p plan input s low laid unfed n → (k : ℕ) →
+          turn_from p plan input s k (before p plan input s low laid unfed (x ∷ rest) cells lists own closing) ≡ Ok e →
           (stage_of p plan (site_of (out-Stmt x)).0 ≡ s) ⊎ ((stage_of p plan (site_of (out-Stmt x)).0 < s) ⊎
           (s < stage_of p plan (site_of (out-Stmt x)).0)) → Near p plan input s low laid unfed e.cells f.cells
       at_statement go zero q (inl here) = absurd (never (before p plan input s low laid unfed (x ∷ rest) cells lists own closing) e q)
       at_statement go zero q (inr (inl past)) = absurd (never (before p plan input s low laid unfed (x ∷ rest) cells lists own closing) e q)
-      at_statement go (suc k) q (inl here) = at_before p plan input s low laid unfed n go k x rest text cells lists own closing mem taken made shut e f facing near here q r
-      at_statement go (suc k) q (inr (inl past)) = at_earlier p plan input s low laid unfed n go k x rest text cells lists own closing mem taken made shut e f facing near past q r
+      at_statement go (suc k) q (inl here) =
+          at_before p plan input s low laid unfed n go k x rest text cells lists own closing mem taken made shut e f facing near here q r
+      at_statement go (suc k) q (inr (inl past)) =
+          at_earlier p plan input s low laid unfed n go k x rest text cells lists own closing mem taken made shut e f facing near past q r
       at_statement go k q (inr (inr late)) =
           let kept = head_kept p plan input s low laid unfed x rest text in let reach = kept.1 in
-          at_worker p plan input s low laid unfed n go k x rest text cells lists own closing mem taken made shut e f facing near (omega (arith, late, reach)) q r
+          at_worker p plan input s low laid unfed n go k x rest text cells lists own closing mem taken made shut e f facing near
+          (omega (arith, late, reach)) q r

@@ -1,5 +1,7 @@
 -- A worker goes on with its own memory, where its stage doesn't load what it stores there itself.
-use Rattle.dp_semantics.proofs.Names.{◌≡◌, refl, sym, ap, ◌∙◌, subst, arith, ℕ, zero, suc, Bool, true, false, List, [], ◌∷◌, ◌++◌, ℤ, length, slice_get, Option, Some, None, Ok, Err, Stmt, StageKind, Par, Seq, is_par, is_replicated, Status, Going, Closing, Broken, Packet, Passed, passed_on, Epoch, cleared, TurnEnd, Ended, length-append}
+use Rattle.dp_semantics.proofs.Names.{◌≡◌, refl, sym, ap, ◌∙◌, subst, arith, ℕ, zero, suc, Bool, true, false, List, [], ◌∷◌, ◌++◌, ℤ, length, slice_get, Option}
+use Rattle.dp_semantics.proofs.Names.{Some, None, Ok, Err, Stmt, StageKind, Par, Seq, is_par, is_replicated, Status, Going, Closing, Broken, Packet, Passed}
+use Rattle.dp_semantics.proofs.Names.{passed_on, Epoch, cleared, TurnEnd, Ended, length-append}
 use Rattle.dp_semantics.specs.EpochKey.{EpochKey, epoch_of}
 use Rattle.dp_semantics.proofs.Setting.{Accepted}
 use Rattle.dp_net.specs.NetItems.{Marks}

@@ -1,5 +1,9 @@
 -- A worker goes on with its own memory, where its stage doesn't load what it stores there itself.
-use Rattle.dp_semantics.proofs.Names.{◌≡◌, inl, inr, refl, sym, ap, ◌∙◌, subst, arith, le-ltb, cases_Bool, cases_lt, both_ways, and_from, ℕ, zero, suc, ◌+◌, ◌-◌, ◌<◌, ◌≤◌, Bool, true, false, not, ◌&&◌, ◌||◌, if◌then◌else◌, List, [], ◌∷◌, ◌++◌, ℤ, length, get_or, get_or_append_left, get_or-append_seam, slice_get_past, sum_by, list_any, Stmt, Program, Plan, Word, is_par, is_replicated, is_body_local, is_local_cell, region_accesses, region_statement, project_all, word_list, Epoch, cleared, clear_locals, fits_plan}
+use Rattle.dp_semantics.proofs.Names.{◌≡◌, inl, inr, refl, sym, ap, ◌∙◌, subst, arith, le-ltb, cases_Bool, cases_lt, both_ways, and_from, ℕ, zero, suc, ◌+◌}
+use Rattle.dp_semantics.proofs.Names.{◌-◌, ◌<◌, ◌≤◌, Bool, true, false, not, ◌&&◌, ◌||◌, if◌then◌else◌, List, [], ◌∷◌, ◌++◌, ℤ, length, get_or}
+use Rattle.dp_semantics.proofs.Names.{get_or_append_left, get_or-append_seam, slice_get_past, sum_by, list_any, Stmt, Program, Plan, Word, is_par}
+use Rattle.dp_semantics.proofs.Names.{is_replicated, is_body_local, is_local_cell, region_accesses, region_statement, project_all, word_list, Epoch, cleared}
+use Rattle.dp_semantics.proofs.Names.{clear_locals, fits_plan}
 unfoldable use Rattle.dp_semantics.proofs.Names.{turn_from}
 use Rattle.dp_tree.specs.Inlined.{IsInlined}
 use Rattle.dp_semantics.specs.EpochKey.{EpochKey, epoch_of}

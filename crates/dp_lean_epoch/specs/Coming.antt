@@ -18,8 +18,8 @@ module _ (m : Marks) (key : EpochKey) where
   Brought s n queues more = (y : ℕ) → is_read key.program key.plan m (suc s) y ≡ true → queues y ≡ told_upto m key s y n ++ more y
 
   -- .. at the j iterations from the k-th on
-  abbrev pub Coming : ℕ → ℕ → ℕ → (ℕ → List Told) → (ℕ → List Told) → Type 0
-  Coming s k j queues more =
+  abbrev pub QueuesBring : ℕ → ℕ → ℕ → (ℕ → List Told) → (ℕ → List Told) → Type 0
+  QueuesBring s k j queues more =
       (y : ℕ) → is_read key.program key.plan m (suc s) y ≡ true → queues y ≡ flat_map (told_upto m key s y) (numbers_from k j) ++ more y
 
   -- the same of the loads of checked sites, for the judge

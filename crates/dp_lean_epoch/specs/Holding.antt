@@ -34,8 +34,8 @@ abbrev pub PlaceBegins : {X : Type 0} → List X → List (List X) → ℕ → T
 PlaceBegins {X} front lists place = (whole : List X) × (slice_get lists place ≡ Some whole) × BeginsWith front whole
 
 -- the place of a site in columns
-abbrev pub place_of : EpochKey → ℕ → ℕ
-place_of key y = y - first_site key.program key.plan
+abbrev pub column_place : EpochKey → ℕ → ℕ
+column_place key y = y - first_site key.program key.plan
 
 module _ (m : Marks) (key : EpochKey) (kept : Kept) where
   -- Kept is of each site what a later stage or the judge reads, and of each checked site what the judge compares.
@@ -45,11 +45,11 @@ module _ (m : Marks) (key : EpochKey) (kept : Kept) where
 
   -- The columns of stage t begin with what it told at the j iterations from the k-th on, and so do its numbers of steps.
   -- Behind that is what it told later, or what a turn left that broke off.
-  pub record Holds (t k j : ℕ) (c : StageColumns) : Type 0 where
+  pub record HoldsTold (t k j : ℕ) (c : StageColumns) : Type 0 where
     pub told : (y : ℕ) → stage_of key.program key.plan y ≡ t → kept.told y ≡ true →
-        PlaceBegins (flat_map (own_told m key y) (numbers_from k j)) c.columns.told (place_of key y)
+        PlaceBegins (flat_map (own_told m key y) (numbers_from k j)) c.columns.told (column_place key y)
     pub loads : (y : ℕ) → stage_of key.program key.plan y ≡ t → kept.loads y ≡ true →
-        PlaceBegins (flat_map (own_loads m key y) (numbers_from k j)) c.columns.loads (place_of key y)
+        PlaceBegins (flat_map (own_loads m key y) (numbers_from k j)) c.columns.loads (column_place key y)
     pub steps : BeginsWith (map (own_steps m key t) (numbers_from k j)) c.steps
 
   -- what stage t tells at these iterations, one behind the other
@@ -57,14 +57,14 @@ module _ (m : Marks) (key : EpochKey) (kept : Kept) where
   items_since t k j = flat_map (own_items m key t) (numbers_from k j)
 
   -- .. put into columns of these kinds, where nothing was
-  abbrev pub filled : List ColumnKind → ℕ → ℕ → ℕ → Columned
-  filled kinds t k j = put_items (first_site key.program key.plan) kept.told kept.loads (items_since t k j) (nothing_kept kinds)
+  abbrev pub columns_filled : List ColumnKind → ℕ → ℕ → ℕ → Columned
+  columns_filled kinds t k j = put_items (first_site key.program key.plan) kept.told kept.loads (items_since t k j) (nothing_kept kinds)
 
   -- the kept sites have places
   abbrev pub HavePlaces : List ColumnKind → Type 0
-  HavePlaces kinds = ((y : ℕ) → kept.told y ≡ true → place_of key y < length kinds) × ((y : ℕ) → kept.loads y ≡ true → place_of key y < length kinds)
+  HavePlaces kinds = ((y : ℕ) → kept.told y ≡ true → column_place key y < length kinds) × ((y : ℕ) → kept.loads y ≡ true → column_place key y < length kinds)
 
 -- each place's queues have become longer, or stayed
-pub record Grown (old new : Columned) : Type 0 where
+pub record QueuesGrown (old new : Columned) : Type 0 where
   pub told : (place : ℕ) (queue : List Told) → slice_get old.told place ≡ Some queue → PlaceBegins queue new.told place
   pub loads : (place : ℕ) (queue : List (List Load)) → slice_get old.loads place ≡ Some queue → PlaceBegins queue new.loads place

@@ -21,8 +21,8 @@ use Rattle.dp_lean_epoch.specs.Steps.{without_locals}
 
 module _ (m : Marks) (key : EpochKey) where
   -- the number of steps that are left of the fuel before the n-th iteration
-  abbrev pub fuel_left : ℕ → ℕ
-  fuel_left n = key.fuel - (state_at key n).steps
+  abbrev pub fuel_before : ℕ → ℕ
+  fuel_before n = key.fuel - (state_at key n).steps
 
   -- the iteration is executed again; the cause is the source's
   abbrev pub again_at : ℕ → Verdict
@@ -45,7 +45,7 @@ module _ (m : Marks) (key : EpochKey) where
 
   -- the verdict on the n-th iteration
   abbrev pub lean_verdict : ℕ → LeanJudgement → Verdict
-  lean_verdict n end = lean_verdict_by n (nat_le (steps_at m key n) (fuel_left n)) end
+  lean_verdict n end = lean_verdict_by n (nat_le (steps_at m key n) (fuel_before n)) end
 
   -- Behind what is committed the judging stands at the next iteration. `more` is left of the queues.
   pub record CommitsAs (n : ℕ) (more : ℕ → List Told) (more_loads : ℕ → List (List Load)) (f : LeanJudging) : Type 0 where
@@ -55,9 +55,9 @@ module _ (m : Marks) (key : EpochKey) where
     pub loads_left : (y : ℕ) → is_read key.program key.plan m (last key.plan) y ≡ true → is_checked key.program key.plan y ≡ true → f.loads y ≡ more_loads y
 
   -- The verdict says what the definition's says, and where it commits, all stands at the next iteration.
-  pub record Judged (n : ℕ) (more : ℕ → List Told) (more_loads : ℕ → List (List Load)) (end : LeanJudgement) : Type 0 where
+  pub record JudgedAsDefined (n : ℕ) (more : ℕ → List Told) (more_loads : ℕ → List (List Load)) (end : LeanJudgement) : Type 0 where
     pub verdict : SaysTheSame key (verdict_at key n) (lean_verdict n end)
-    pub next : (f : LeanJudging) → end ≡ Holds f → steps_at m key n ≤ fuel_left n → CommitsAs n more more_loads f
+    pub next : (f : LeanJudging) → end ≡ Holds f → steps_at m key n ≤ fuel_before n → CommitsAs n more more_loads f
 
   -- Up to the first verdict that doesn't go on: on a packet that isn't void, from a memory that stands there and with what the stages told,
   -- the lean judging comes to an end, by which the verdict is decided.
@@ -65,7 +65,8 @@ module _ (m : Marks) (key : EpochKey) where
   JudgeSteps = (n : ℕ) → GoesOnTo key n → Arrives m key (length key.plan.stages) n → (memory : List ℤ) → LeanJudges key n memory →
       (queues more : ℕ → List Told) → Brought m key (length key.plan.stages) n queues more →
       (loads more_loads : ℕ → List (List Load)) → LoadsBrought m key n loads more_loads →
-      (end : LeanJudgement) × JudgesIn key.program key.plan m (lean_judging key.program key.plan m memory queues loads) end × Judged n more more_loads end
+      (end : LeanJudgement) × JudgesIn key.program key.plan m (lean_judging key.program key.plan m memory queues loads) end
+      × JudgedAsDefined n more more_loads end
 
   -- .. and a void packet's iteration is executed again.
   abbrev pub VoidsRecover : Type 0

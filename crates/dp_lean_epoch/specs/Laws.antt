@@ -16,10 +16,10 @@ use Rattle.dp_lean.specs.Queues.{Told}
 use Rattle.dp_columns.specs.declared.ColumnKind.{ColumnKind}
 use Rattle.dp_columns.specs.Telling.{put_items}
 use Rattle.dp_lean_epoch.specs.Own.{at_stage, Arrives, own_items, own_steps, steps_at, told_upto, loads_upto}
-use Rattle.dp_lean_epoch.specs.Coming.{Brought, Coming, LoadsBrought, LoadsComing, LeanStands, LeanJudges}
-use Rattle.dp_lean_epoch.specs.Holding.{Kept, StageColumns, KeepsEnough, Holds, HavePlaces, Grown, filled}
+use Rattle.dp_lean_epoch.specs.Coming.{Brought, QueuesBring, LoadsBrought, LoadsComing, LeanStands, LeanJudges}
+use Rattle.dp_lean_epoch.specs.Holding.{Kept, StageColumns, KeepsEnough, HoldsTold, HavePlaces, QueuesGrown, columns_filled}
 use Rattle.dp_lean_epoch.specs.Steps.{keeps_memory, lean_cap}
-use Rattle.dp_lean_epoch.specs.LeanBatch.{Stood, stood_in, LeanItem, queue_among, loads_among, steps_among, IsVersion, IsLeanBatch, Stands}
+use Rattle.dp_lean_epoch.specs.LeanBatch.{Stood, stood_in, LeanItem, queue_among, loads_among, steps_among, IsVersion, IsLeanBatch, IterationsStand}
 
 -- So it is in each epoch of the program and the plan, whichever runs of quiet statements are taken for blocks.
 abbrev pub InEpochs : (Marks → EpochKey → Type 0) → Program → Plan → Type 0
@@ -41,8 +41,8 @@ module _ (m : Marks) (key : EpochKey) where
 
   -- The iterations of a batch stand at a stage as is said of them one by one, and in no other way. Those that came to their end aren't void.
   pub record BatchStands (cap s b : ℕ) : Type 0 where
-    pub each : Stands m key s (batch_begin key cap b) (batch_size key cap b) (stood_in (batch_at m key cap s b))
-    pub only : (x : Stood) → Stands m key s (batch_begin key cap b) (batch_size key cap b) x → x ≡ stood_in (batch_at m key cap s b)
+    pub each : IterationsStand m key s (batch_begin key cap b) (batch_size key cap b) (stood_in (batch_at m key cap s b))
+    pub only : (x : Stood) → IterationsStand m key s (batch_begin key cap b) (batch_size key cap b) x → x ≡ stood_in (batch_at m key cap s b)
     pub arrive : (i : ℕ) → i < (stood_in (batch_at m key cap s b)).iterations → Arrives m key s (batch_begin key cap b + i)
 
   -- the first i of the iterations from the k-th on go on at stage s
@@ -51,15 +51,15 @@ module _ (m : Marks) (key : EpochKey) where
 
   -- So a batch ends at a stage behind iterations that go on: it is whole, or the next one closes, or is void.
   pub record BatchEnds (s k r : ℕ) : Type 0 where
-    pub whole : Onward s k r → Stands m key s k r (record { iterations = r; ends = NetGoing })
+    pub whole : Onward s k r → IterationsStand m key s k r (record { iterations = r; ends = NetGoing })
     pub closing : (i : ℕ) → i < r → Onward s k i → (at_stage m key s (k + i)).packet.status ≡ NetClosing →
-        Stands m key s k r (record { iterations = suc i; ends = NetClosing })
+        IterationsStand m key s k r (record { iterations = suc i; ends = NetClosing })
     pub void : (i : ℕ) → i < r → Onward s k i → (at_stage m key s (k + i)).packet.status ≡ NetVoid →
-        Stands m key s k r (record { iterations = i; ends = NetVoid })
+        IterationsStand m key s k r (record { iterations = i; ends = NetVoid })
 
   -- Where several iterations come, the first of them does, and behind it the others.
   pub record ComeOneByOne (s k j : ℕ) : Type 0 where
-    pub told : (queues more : ℕ → List Told) → Coming m key s k (suc j) queues more →
+    pub told : (queues more : ℕ → List Told) → QueuesBring m key s k (suc j) queues more →
         Brought m key s k queues (λ y. flat_map (told_upto m key s y) (numbers_from (k + 1) j) ++ more y)
     pub loads : (loads more : ℕ → List (List Load)) → LoadsComing m key k (suc j) loads more →
         LoadsBrought m key k loads (λ y. flat_map (loads_upto m key (length key.plan.stages) y) (numbers_from (k + 1) j) ++ more y)
@@ -72,7 +72,7 @@ module _ (m : Marks) (key : EpochKey) where
     -- The columns that came, with the next stage's behind them, are what that stage sends, if its own hold the iterations that came to their end there.
     abbrev pub BatchesExtend : Type 0
     BatchesExtend = (cap s b : ℕ) (item : LeanItem) → IsLeanBatch m key kept cap s b item → (c : StageColumns) (x : Stood) (version : Option (List ℤ)) →
-        Stands m key (suc s) (batch_begin key cap b) (batch_size key cap b) x → Holds m key kept (suc s) (batch_begin key cap b) x.iterations c →
+        IterationsStand m key (suc s) (batch_begin key cap b) (batch_size key cap b) x → HoldsTold m key kept (suc s) (batch_begin key cap b) x.iterations c →
         (is_replicated key.plan (suc (suc s)) ≡ true → IsVersion m key (suc (suc s)) (batch_begin key cap b) version) →
         IsLeanBatch m key kept cap (suc s) b (with_columns item c x version)
 
@@ -82,7 +82,7 @@ module _ (m : Marks) (key : EpochKey) where
 
     -- The queues of what is sent of a batch begin with what its iterations tell, one after the other.
     pub record QueuesCome (cap s b : ℕ) (item : LeanItem) : Type 0 where
-      pub told : (more : ℕ → List Told) × Coming m key s (batch_begin key cap b) item.stood.iterations (queue_among key item.stages) more
+      pub told : (more : ℕ → List Told) × QueuesBring m key s (batch_begin key cap b) item.stood.iterations (queue_among key item.stages) more
       pub loads : s ≡ length key.plan.stages →
           (more : ℕ → List (List Load)) × LoadsComing m key (batch_begin key cap b) item.stood.iterations (loads_among key item.stages) more
       pub steps : s ≡ length key.plan.stages → (i : ℕ) → i < item.stood.iterations → steps_among item.stages i ≡ steps_at m key (batch_begin key cap b + i)
@@ -94,15 +94,16 @@ module _ (m : Marks) (key : EpochKey) where
     -- Own items, put iteration after iteration into empty columns, are held there; so are those of a front of the iterations; and more may stand behind.
     pub record ColumnsFill (kinds : List ColumnKind) : Type 0 where
       pub further : (t k j : ℕ) →
-          put_items (first_site key.program key.plan) kept.told kept.loads (own_items m key t (k + j)) (filled m key kept kinds t k j)
-          ≡ filled m key kept kinds t k (suc j)
+          put_items (first_site key.program key.plan) kept.told kept.loads (own_items m key t (k + j)) (columns_filled m key kept kinds t k j)
+          ≡ columns_filled m key kept kinds t k (suc j)
       pub steps : (t k j : ℕ) →
           map (own_steps m key t) (numbers_from k j) ++ own_steps m key t (k + j) ∷ []
           ≡ map (own_steps m key t) (numbers_from k (suc j))
       pub holds : (t k j : ℕ) → 0 < t →
-          Holds m key kept t k j (record { columns = filled m key kept kinds t k j; steps = map (own_steps m key t) (numbers_from k j) })
-      pub front : (t k i j : ℕ) → i ≤ j → (c : StageColumns) → Holds m key kept t k j c → Holds m key kept t k i c
-      pub grown : (t k j : ℕ) (c d : StageColumns) → Holds m key kept t k j c → Grown c.columns d.columns → c.steps ≡ d.steps → Holds m key kept t k j d
+          HoldsTold m key kept t k j (record { columns = columns_filled m key kept kinds t k j; steps = map (own_steps m key t) (numbers_from k j) })
+      pub front : (t k i j : ℕ) → i ≤ j → (c : StageColumns) → HoldsTold m key kept t k j c → HoldsTold m key kept t k i c
+      pub grown : (t k j : ℕ) (c d : StageColumns) → HoldsTold m key kept t k j c → QueuesGrown c.columns d.columns → c.steps ≡ d.steps →
+          HoldsTold m key kept t k j d
 
   -- A batch has at most one iteration where some stage doesn't keep its memory.
   pub record BatchesAreKept : Type 0 where

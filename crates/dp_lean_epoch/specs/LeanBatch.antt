@@ -11,7 +11,7 @@ use Rattle.dp_lean.specs.Queues.{Told}
 use Rattle.dp_columns.specs.Columned.{nothing_kept}
 use Rattle.dp_lean_epoch.specs.Own.{at_stage}
 use Rattle.dp_lean_epoch.specs.Coming.{LeanStands}
-use Rattle.dp_lean_epoch.specs.Holding.{Kept, StageColumns, place_of, Holds}
+use Rattle.dp_lean_epoch.specs.Holding.{Kept, StageColumns, column_place, HoldsTold}
 
 -- how many iterations of a batch came to their end, and how its last one stands: where that is void, it is the one behind these
 pub record Stood : Type 0 where
@@ -46,11 +46,11 @@ columns_of stages t = get_or stages (t - 1) no_columns
 
 -- the queue of a site in the columns of its stage
 abbrev pub queue_among : EpochKey → List StageColumns → ℕ → List Told
-queue_among key stages y = get_or (columns_of stages (stage_of key.program key.plan y)).columns.told (place_of key y) []
+queue_among key stages y = get_or (columns_of stages (stage_of key.program key.plan y)).columns.told (column_place key y) []
 
 -- .. and of its loads
 abbrev pub loads_among : EpochKey → List StageColumns → ℕ → List (List Load)
-loads_among key stages y = get_or (columns_of stages (stage_of key.program key.plan y)).columns.loads (place_of key y) []
+loads_among key stages y = get_or (columns_of stages (stage_of key.program key.plan y)).columns.loads (column_place key y) []
 
 -- the number of steps of all stages at the i-th iteration
 abbrev pub steps_among : List StageColumns → ℕ → ℕ
@@ -63,7 +63,7 @@ module _ (m : Marks) (key : EpochKey) where
   IsVersion s n None = ⊥
 
   -- So r iterations from the k-th on stand at stage s, up to and with the first that doesn't go on: each that came to its end goes on, but for the last.
-  pub record Stands (s k r : ℕ) (x : Stood) : Type 0 where
+  pub record IterationsStand (s k r : ℕ) (x : Stood) : Type 0 where
     pub within : x.iterations ≤ r
     pub going : (i : ℕ) → suc i < x.iterations → (at_stage m key s (k + i)).packet.status ≡ NetGoing
     pub at_end : (i : ℕ) → suc i ≡ x.iterations → (at_stage m key s (k + i)).packet.status ≡ (if is_void x.ends then NetGoing else x.ends)
@@ -76,5 +76,5 @@ module _ (m : Marks) (key : EpochKey) (kept : Kept) where
   pub record IsLeanBatch (cap s b : ℕ) (item : LeanItem) : Type 0 where
     pub size : length item.stages ≡ s
     pub stood : item.stood ≡ stood_in (batch_at m key cap s b)
-    pub holds : (t : ℕ) (c : StageColumns) → slice_get item.stages t ≡ Some c → Holds m key kept (suc t) (batch_begin key cap b) item.stood.iterations c
+    pub holds : (t : ℕ) (c : StageColumns) → slice_get item.stages t ≡ Some c → HoldsTold m key kept (suc t) (batch_begin key cap b) item.stood.iterations c
     pub version : is_replicated key.plan (suc s) ≡ true → IsVersion m key (suc s) (batch_begin key cap b) item.version

@@ -14,9 +14,9 @@ use Rattle.dp_lean.specs.LeanJudge.{LeanJudging, LeanJudgement, Holds, JudgesIn,
 use Rattle.dp_columns.specs.declared.ColumnKind.{ColumnKind}
 use Rattle.dp_columns.specs.Telling.{put_items}
 use Rattle.dp_lean_epoch.specs.Own.{at_stage, Arrives, own_steps, steps_at}
-use Rattle.dp_lean_epoch.specs.Coming.{Coming, LoadsComing, LeanStands, LeanJudges}
+use Rattle.dp_lean_epoch.specs.Coming.{QueuesBring, LoadsComing, LeanStands, LeanJudges}
 use Rattle.dp_lean_epoch.specs.Holding as holding
-use Rattle.dp_lean_epoch.specs.Holding.{Kept, StageColumns, filled}
+use Rattle.dp_lean_epoch.specs.Holding.{Kept, StageColumns, columns_filled}
 use Rattle.dp_lean_epoch.specs.Steps.{keeps_memory, without_locals, CodeEnds}
 use Rattle.dp_lean_epoch.specs.JudgeSteps.{lean_verdict_by}
 use Rattle.dp_lean_epoch.specs.Laws.{Onward}
@@ -33,15 +33,15 @@ module _ (m : Marks) (key : EpochKey) where
     -- Behind i iterations from the k-th on, which all go on at stage s + 1, and before j others, of which the earlier stages tell.
     pub record Midway (s k i j : ℕ) (queues more : ℕ → List Told) (memory : List ℤ) (c : StageColumns) : Type 0 where
       pub onward : Onward m key (suc s) k i
-      pub coming : Coming m key s (k + i) j queues more
+      pub coming : QueuesBring m key s (k + i) j queues more
       pub stands : LeanStands m key (suc s) (k + i) memory
-      pub columns : c.columns ≡ filled m key kept kinds (suc s) k i
+      pub columns : c.columns ≡ columns_filled m key kept kinds (suc s) k i
       pub steps : c.steps ≡ map (own_steps m key (suc s)) (numbers_from k i)
 
     -- The next one came to its end: its columns hold it, and where it goes on and the stage keeps its memory, all stands behind it.
     pub record Further (s k i j : ℕ) (more : ℕ → List Told) (c : StageColumns) (f : LeanTurn) : Type 0 where
       pub status : (at_stage m key (suc s) (k + i)).packet.status ≡ net_status_of (at_stage m key s (k + i)).packet.status f.turn.closing
-      pub holds : holding.Holds m key kept (suc s) k (suc i) (with_turn c f)
+      pub holds : holding.HoldsTold m key kept (suc s) k (suc i) (with_turn c f)
       pub memory : keeps_memory key.program key.plan (suc s) ≡ true → LeanStands m key (suc s) (k + suc i) (without_locals m key f.turn.cells)
       pub onward : (at_stage m key (suc s) (k + i)).packet.status ≡ NetGoing → keeps_memory key.program key.plan (suc s) ≡ true →
           Midway s k (suc i) j f.queues more (without_locals m key f.turn.cells) (with_turn c f)
@@ -61,7 +61,7 @@ module _ (m : Marks) (key : EpochKey) where
   -- The judge behind i iterations from the k-th on, whose verdicts go on, and before j others.
   pub record JudgeMidway (k i j : ℕ) (queues more : ℕ → List Told) (loads more_loads : ℕ → List (List Load)) (memory : List ℤ) (steps : ℕ) : Type 0 where
     pub goes : GoesOnTo key (k + i)
-    pub coming : Coming m key (length key.plan.stages) (k + i) j queues more
+    pub coming : QueuesBring m key (length key.plan.stages) (k + i) j queues more
     pub loads_coming : LoadsComing m key (k + i) j loads more_loads
     pub stands : LeanJudges key (k + i) memory
     pub counted : steps ≡ (state_at key (k + i)).steps

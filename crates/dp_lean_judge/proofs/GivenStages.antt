@@ -13,4 +13,6 @@ use Rattle.dp_lean_judge.proofs.StageNumbers.{written_has_stages}
 
 module _ (p : Program) (inlined : IsInlined p) (plan : Plan) (is : IsPlan p plan) where
   pub given_stages : HasStages p plan
-  given_stages = subst (λ (q : Plan). HasStages p q) (plan_back p plan is (in_order p inlined plan (region_within p inlined plan is).0 (region_within p inlined plan is).1)) (written_has_stages p plan.proved (written_of p plan))
+  given_stages = subst (λ (q : Plan). HasStages p q)
+      (plan_back p plan is (in_order p inlined plan (region_within p inlined plan is).0 (region_within p inlined plan is).1))
+      (written_has_stages p plan.proved (written_of p plan))

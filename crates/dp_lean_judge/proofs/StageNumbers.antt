@@ -26,8 +26,10 @@ pub written_has_stages : (p : Program) (proved : Bool) (w : WrittenPlan) → Has
 written_has_stages p proved w site e = by (nat_le (first_site p (plan_of p proved w)) site) refl
   where
     below : slice_index (map (written_stage w) (region_sites p w.region)) (site - first_site p (plan_of p proved w)) < suc (length w.stages)
-    below = entry_within (written_stage w) (suc (length w.stages)) (λ x. let h = stage_within 1 w.stages x (omega arith) in omega (arith, h)) (region_sites p w.region) (site - first_site p (plan_of p proved w))
+    below = entry_within (written_stage w) (suc (length w.stages)) (λ x. let h = stage_within 1 w.stages x (omega arith) in
+        omega (arith, h)) (region_sites p w.region) (site - first_site p (plan_of p proved w))
 
     by : (b : Bool) → nat_le (first_site p (plan_of p proved w)) site ≡ b → ⊥
-    by true q = let is : slice_index (map (written_stage w) (region_sites p w.region)) (site - first_site p (plan_of p proved w)) ≡ last (plan_of p proved w) = rw q at e in omega (arith, is, below, length-map w.stages kind_in)
+    by true q = let is : slice_index (map (written_stage w) (region_sites p w.region)) (site - first_site p (plan_of p proved w)) ≡ last (plan_of p proved w) =
+        rw q at e in omega (arith, is, below, length-map w.stages kind_in)
     by false q = let is : 0 ≡ last (plan_of p proved w) = rw q at e in omega (arith, is)

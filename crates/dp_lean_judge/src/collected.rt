@@ -2,7 +2,7 @@
 ghost use Rattle.std.specs.Prelude.{◌≡◌, ◌++◌, ◌∷◌, [], get_or, map, pos, slice_set, OnOk, OnErr};
 ghost use Rattle.std.specs.Option.{option_map};
 ghost use Rattle.dp_tree.specs.Step.{Stored};
-ghost use Rattle.dp_columns.specs.Paired.{pairs_of, stored_by};
+ghost use Rattle.dp_columns.specs.Paired.{pairs_of, as_store};
 ghost use Rattle.dp_lean_judge.specs.Collecting.{StoresDone, SameBefore, stages_when, undone};
 
 use dp_base::{CellId, Cells, NoMemory, Row, StoreOf};
@@ -128,7 +128,7 @@ impl Collected {
         stored: &[u32],
         values: &[i64],
     ) -> Result<(), NoMemory>
-        ensures stores { OnOk result (StoresDone stage (map stored_by (pairs_of stored.now values.now)) cells.old self.old cells.new self.new) }
+        ensures stores { OnOk result (StoresDone stage (map as_store (pairs_of stored.now values.now)) cells.old self.old cells.new self.new) }
         ensures before { SameBefore cells.old self.old cells.new self.new }
     {
         for (cell, value) in stored.iter().zip(values.iter()) {

@@ -11,7 +11,7 @@ ghost use Rattle.dp_columns.specs.declared.ColumnKind.TheVariants as kind;
 ghost use Rattle.dp_columns.specs.Paired.{pairs_of, block_told};
 ghost use Rattle.dp_lean_judge.specs.JudgeState.{LeanState};
 ghost use Rattle.dp_lean_judge.specs.Shown.{ShowsQueues, reader_at};
-ghost use Rattle.dp_lean_judge.specs.Ready.{kind_at};
+ghost use Rattle.dp_lean_judge.specs.Ready.{seat_kind};
 ghost use Rattle.dp_lean_judge.specs.steps.Taking.{Compares, IsSeat, SameKinds, Took, TookOfLoads, told_count};
 
 use crate::ready::Seat;
@@ -22,7 +22,7 @@ use dp_engine::Memory;
 /// The next value of a site of which values alone are kept, of this cell.
 #[inline(always)]
 pub(crate) fn next_value<'c>(readers: &mut Row<Reader<'c>>, seat: Seat, cell: u32) -> Option<i64>
-    requires { kind_at readers.old seat ≡ Some (kind.Value cell) }
+    requires { seat_kind readers.old seat ≡ Some (kind.Value cell) }
     ensures { Took readers.old seat (option_map (Did cell) result) readers.new }
 {
     match readers.get_mut(seat.reader) {
@@ -34,7 +34,7 @@ pub(crate) fn next_value<'c>(readers: &mut Row<Reader<'c>>, seat: Seat, cell: u3
 /// The next cell and value of a site of which both are kept.
 #[inline(always)]
 pub(crate) fn next_element<'c>(readers: &mut Row<Reader<'c>>, seat: Seat) -> Option<(u32, i64)>
-    requires { kind_at readers.old seat ≡ Some kind.Element }
+    requires { seat_kind readers.old seat ≡ Some kind.Element }
     ensures { Took readers.old seat (option_map (λ pair. Did pair.0 pair.1) result) readers.new }
 {
     match readers.get_mut(seat.reader) {
@@ -49,7 +49,7 @@ pub(crate) fn next_block<'c>(
     readers: &mut Row<Reader<'c>>,
     seat: Seat,
 ) -> Option<(&'c [u32], &'c [i64])>
-    requires { kind_at readers.old seat ≡ Some kind.Block }
+    requires { seat_kind readers.old seat ≡ Some kind.Block }
     ensures { Took readers.old seat (option_map (λ part. block_told (pairs_of part.0.now part.1.now)) result) readers.new }
 {
     match readers.get_mut(seat.reader) {

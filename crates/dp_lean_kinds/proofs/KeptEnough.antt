@@ -1,5 +1,7 @@
 -- What is needed behind a stage is kept, and has a place.
-use Rattle.dp_semantics.proofs.Names.{◌≡◌, inl, inr, refl, sym, ap, ◌∙◌, subst, arith, append-nil, cases_lt, ℕ, ◌+◌, ◌-◌, ◌<◌, ◌≤◌, ◌&&◌, ◌||◌, ◌==◌, Bool, true, false, List, [], ◌∷◌, ◌++◌, length, and_parts, eqb-true, outs-If, Stmt, out-Stmt, Stmt-F, Region, Program, Plan, Access, accesses, site_of, stage_of, first_site, region_statement, region_accesses, project, project_all, fits_plan, last}
+use Rattle.dp_semantics.proofs.Names.{◌≡◌, inl, inr, refl, sym, ap, ◌∙◌, subst, arith, append-nil, cases_lt, ℕ, ◌+◌, ◌-◌, ◌<◌, ◌≤◌, ◌&&◌, ◌||◌, ◌==◌, Bool}
+use Rattle.dp_semantics.proofs.Names.{true, false, List, [], ◌∷◌, ◌++◌, length, and_parts, eqb-true, outs-If, Stmt, out-Stmt, Stmt-F, Region, Program, Plan}
+use Rattle.dp_semantics.proofs.Names.{Access, accesses, site_of, stage_of, first_site, region_statement, region_accesses, project, project_all, fits_plan, last}
 use Rattle.dp_tree.specs.declared.Stmt.TheVariants as tree
 use Rattle.dp_tree.specs.Inlined.{IsInlined}
 use Rattle.dp_tree.specs.Numbering.{numbers_from}
@@ -43,9 +45,11 @@ module _ (p : Program) (plan : Plan) (inlined : IsInlined p) (fits : fits_plan p
 
   module _ (s : ℕ) (high : last plan ≤ s) where
     text_is : (v : ℕ) → last plan ≤ v → project_all p plan v (region_statement p plan) ≡ turn ∷ []
-    text_is v from = ap (project_all p plan v) a.region ∙ append-nil (project p plan v a.statement) ∙ project_out p plan v a.statement ∙ ap (project_at p plan v) a.is
+    text_is v from = ap (project_all p plan v) a.region ∙ append-nil (project p plan v a.statement) ∙ project_out p plan v a.statement
+        ∙ ap (project_at p plan v) a.is
         ∙ ap (λ (xs : List Stmt). tree.If a.site a.cond xs [] ∷ [])
-        (whole_all p plan v a.body a.well (each_map (λ c. stage_of p plan c.site < last plan) (λ c. stage_of p plan c.site ≤ v) (λ c h. omega (arith, h, from)) (accesses_all a.body) low_body))
+        (whole_all p plan v a.body a.well (each_map (λ c. stage_of p plan c.site < last plan) (λ c. stage_of p plan c.site ≤ v) (λ c h. omega (arith, h, from))
+        (accesses_all a.body) low_body))
 
     no_block : (paying_marks p plan).block_at (site_of (out-Stmt turn)).0 ≡ []
     no_block = ap (λ (h : Stmt-F Stmt). (paying_marks p plan).block_at (site_of h).0) (outs-If a.site a.cond a.body [])
@@ -56,7 +60,8 @@ module _ (p : Program) (plan : Plan) (inlined : IsInlined p) (fits : fits_plan p
 
     turn_same : leaned p plan m s (turn ∷ []) ≡ leaned p plan m (last plan) (turn ∷ [])
     turn_same =
-        let q = (quieted (some_epoch p plan a (numbered p plan inlined a).0 (numbered p plan inlined a).1 m (all_sound p plan) []) fits (numbered p plan inlined a).0 (numbered p plan inlined a).1 (pays_off p plan)).marked in
+        let q = (quieted (some_epoch p plan a (numbered p plan inlined a).0 (numbered p plan inlined a).1 m (all_sound p plan) []) fits
+        (numbered p plan inlined a).0 (numbered p plan inlined a).1 (pays_off p plan)).marked in
         let inner = text_same p plan m s high [] q (body_text p plan inlined fits) low_body in
         lean_alone p plan m s turn [] no_block
         ∙ ap (λ (xs : List Stmt). xs ++ []) (lean_out p plan m s turn ∙ ap (lean_at p plan m s) (outs-If a.site a.cond a.body [])
@@ -72,14 +77,16 @@ module _ (p : Program) (plan : Plan) (inlined : IsInlined p) (fits : fits_plan p
   low_site y [] h e = absurd (cc e)
   low_site y (c ∷ all) h e = by (c.site == y) refl e (low_site y all h.1)
     where
-      by : (b : Bool) → (c.site == y) ≡ b → (b || has_site y all) ≡ true → (has_site y all ≡ true → stage_of p plan y < last plan) → stage_of p plan y < last plan
+      by : (b : Bool) → (c.site == y) ≡ b → (b || has_site y all) ≡ true → (has_site y all ≡ true → stage_of p plan y < last plan) →
+          stage_of p plan y < last plan
       by true is e more = subst (λ (f : ℕ). stage_of p plan f < last plan) (eqb-true c.site y is) h.0.early
       by false is e more = more e
 
   needed : (s t y : ℕ) → is_read p plan m s y ≡ true → t < s → t < last plan → is_needed p plan m t y ≡ true
   needed s t y e later early = elim (cases_lt s (last plan)) [
     | inl before ↦ any_there (λ (v : ℕ). is_read p plan m v y) (t + 1) (last plan - t) s (omega (arith, later)) (omega (arith, before, early)) e
-    | inr from ↦ any_there (λ (v : ℕ). is_read p plan m v y) (t + 1) (last plan - t) (last plan) (omega (arith, early)) (omega (arith, early)) (sym (read_late s from y) ∙ e)
+    | inr from ↦ any_there (λ (v : ℕ). is_read p plan m v y) (t + 1) (last plan - t) (last plan) (omega (arith, early)) (omega (arith, early))
+        (sym (read_late s from y) ∙ e)
   ]
 
   pub needed_behind : (s y : ℕ) → is_read p plan m s y ≡ true → stage_of p plan y < s → is_needed p plan m (stage_of p plan y) y ≡ true

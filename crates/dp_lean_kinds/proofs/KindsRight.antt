@@ -1,5 +1,7 @@
 -- What the code finds of each site is its kind.
-use Rattle.dp_semantics.proofs.Names.{◌≡◌, refl, sym, ap, ◌∙◌, arith, append-nil, le-ltb, lt-ltb, ℕ, zero, suc, ◌+◌, ◌-◌, ◌<◌, ◌≤◌, ◌==◌, ◌&&◌, ◌||◌, if◌then◌else◌, not, true, List, [], ◌∷◌, length, map, nat_lt, list_any, flat_map, Stmt, Program, Plan, stage_of, project, project_all, fits_plan, last}
+use Rattle.dp_semantics.proofs.Names.{◌≡◌, refl, sym, ap, ◌∙◌, arith, append-nil, le-ltb, lt-ltb, ℕ, zero, suc, ◌+◌, ◌-◌, ◌<◌, ◌≤◌, ◌==◌, ◌&&◌, ◌||◌}
+use Rattle.dp_semantics.proofs.Names.{if◌then◌else◌, not, true, List, [], ◌∷◌, length, map, nat_lt, list_any, flat_map, Stmt, Program, Plan, stage_of, project}
+use Rattle.dp_semantics.proofs.Names.{project_all, fits_plan, last}
 use Rattle.dp_tree.specs.Inlined.{IsInlined}
 use Rattle.dp_tree.specs.Numbering.{numbers_from}
 use Rattle.dp_plan.specs.CheckedTable.{IsTabled}
@@ -23,7 +25,8 @@ use Rattle.dp_lean_kinds.specs.steps.KindAmong.{kind_among}
 use Rattle.dp_lean_kinds.proofs.ReadPieces.{Piece, number_join, piece_alone}
 use Rattle.dp_lean_kinds.proofs.ReadWhole.{region_one, text_one}
 
-module _ (p : Program) (plan : Plan) (inlined : IsInlined p) (fits : fits_plan p plan ≡ true) (tabled : IsTabled p plan) (tables : LeanTables) (known : AreTablesOf p plan tables) where
+module _ (p : Program) (plan : Plan) (inlined : IsInlined p) (fits : fits_plan p plan ≡ true) (tabled : IsTabled p plan) (tables : LeanTables)
+    (known : AreTablesOf p plan tables) where
   abbrev m : Marks
   m = paying_marks p plan
 
@@ -39,11 +42,13 @@ module _ (p : Program) (plan : Plan) (inlined : IsInlined p) (fits : fits_plan p
       let one : Piece p plan s m (project p plan s a.statement) (read p plan s k a.statement) =
       region_one p plan s m k tabled dones [] marked blocks a.statement a.site a.cond (own_none p plan inlined fits) plan.region a.body a.is
       (text_one p plan s m k tabled dones [] marked blocks (body_text p plan inlined fits)) in
-      ap (λ (xs : List Stmt). Rattle.dp_lean_kinds.proofs.ReadPieces.has_in p plan s m y xs) (ap (project_all p plan s) a.region ∙ append-nil (project p plan s a.statement))
+      ap (λ (xs : List Stmt). Rattle.dp_lean_kinds.proofs.ReadPieces.has_in p plan s m y xs) (ap (project_all p plan s) a.region
+      ∙ append-nil (project p plan s a.statement))
       ∙ piece_alone p plan s m one y
       ∙ ap (has_number y) (sym (ap (flat_map (read p plan s k)) a.region ∙ append-nil (read p plan s k a.statement)))
 
-  reads_are : (first n : ℕ) → 0 < first → first + n ≤ last plan + 1 → (y : ℕ) → has_number y (stages_read p plan tables first n) ≡ list_any (λ (s : ℕ). is_read p plan m s y) (numbers_from first n)
+  reads_are : (first n : ℕ) → 0 < first → first + n ≤ last plan + 1 → (y : ℕ) → has_number y (stages_read p plan tables first n) ≡ list_any
+      (λ (s : ℕ). is_read p plan m s y) (numbers_from first n)
   reads_are first zero low high y = refl
   reads_are first (suc n) low high y =
       number_join y (stage_read p plan tables first) (stages_read p plan tables (first + 1) n)
@@ -63,7 +68,8 @@ module _ (p : Program) (plan : Plan) (inlined : IsInlined p) (fits : fits_plan p
         ap (λ c. if (stage_of p plan a.site.0 == t) && c
         then (if nat_lt 0 ((known_of p plan tables t).count a.site.0) then kind.Block else values_of p plan a.form) else kind.Nothing)
         (reads_are (t + 1) (last plan - t) (omega arith) (omega (arith, high)) a.site.0)
-        ∙ ap (λ c. if (stage_of p plan a.site.0 == t) && is_needed p plan m t a.site.0 then (if c then kind.Block else values_of p plan a.form) else kind.Nothing)
+        ∙ ap (λ c. if (stage_of p plan a.site.0 == t) && is_needed p plan m t a.site.0
+        then (if c then kind.Block else values_of p plan a.form) else kind.Nothing)
         (begins_is (m.block_at a.site.0) ((known_of p plan tables t).count a.site.0) (counts p plan inlined fits tabled tables known t low high a.site.0))
 
     all_are : (sites : List FormedSite) → map (kind_among p plan tables t reads) sites ≡ map (kind_of p plan m t) sites

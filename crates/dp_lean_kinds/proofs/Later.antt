@@ -1,5 +1,8 @@
 -- Behind the judge's number nothing changes: the lean text stays the judge's.
-use Rattle.dp_semantics.proofs.Names.{◌≡◌, refl, sym, ap, ◌∙◌, subst, arith, lt-ltb, ne_eqb, and_parts, not, ℕ, suc, ◌<◌, ◌≤◌, ◌==◌, ◌&&◌, ◌||◌, if◌then◌else◌, Bool, true, List, [], ◌∷◌, ◌++◌, ℤ, Option, Some, None, length, list_any, flat_map, flat_map-append, SiteId, Expr, Stmt, out-Stmt, Stmt-F, Assign, Store, Print, If, While, Region, Break, Call, Program, Plan, Access, accesses, site_of, stage_of, first_site, is_body_local, is_replicated, last, region_accesses}
+use Rattle.dp_semantics.proofs.Names.{◌≡◌, refl, sym, ap, ◌∙◌, subst, arith, lt-ltb, ne_eqb, and_parts, not, ℕ, suc, ◌<◌, ◌≤◌, ◌==◌, ◌&&◌, ◌||◌, if◌then◌else◌}
+use Rattle.dp_semantics.proofs.Names.{Bool, true, List, [], ◌∷◌, ◌++◌, ℤ, Option, Some, None, length, list_any, flat_map, flat_map-append, SiteId, Expr, Stmt}
+use Rattle.dp_semantics.proofs.Names.{out-Stmt, Stmt-F, Assign, Store, Print, If, While, Region, Break, Call, Program, Plan, Access, accesses, site_of}
+use Rattle.dp_semantics.proofs.Names.{stage_of, first_site, is_body_local, is_replicated, last, region_accesses}
 use Rattle.dp_tree.specs.declared.Stmt.TheVariants as tree
 use Rattle.dp_plan.specs.Checked.{is_checked}
 use Rattle.dp_semantics.proofs.Each.{Each, each_split}
@@ -29,10 +32,12 @@ module _ (p : Program) (plan : Plan) (m : Marks) (s : ℕ) (high : last plan ≤
   judge_same = judging s high ∙ sym (judging j (omega arith))
 
   wanted_all : (v x : ℕ) → is_judge p plan v ≡ true → wanted p plan v x ≡ list_any (compares p plan x) (region_accesses p plan)
-  wanted_all v x e = ap (λ c. if c then list_any (compares p plan x) (region_accesses p plan) else is_loaded_in p plan v x || (is_replicated plan (suc v) && is_loaded_in p plan (suc v) x)) e
+  wanted_all v x e = ap (λ c. if c then list_any (compares p plan x) (region_accesses p plan)
+      else is_loaded_in p plan v x || (is_replicated plan (suc v) && is_loaded_in p plan (suc v) x)) e
 
   done_same : (x : ℕ) → is_done_to p plan s x ≡ is_done_to p plan j x
-  done_same x = ap (λ c. c || (is_judge p plan s && not (is_body_local p plan x))) (wanted_all s x (judging s high) ∙ sym (wanted_all j x (judging j (omega arith))))
+  done_same x = ap (λ c. c || (is_judge p plan s && not (is_body_local p plan x))) (wanted_all s x (judging s high)
+      ∙ sym (wanted_all j x (judging j (omega arith))))
       ∙ ap (λ c. wanted p plan j x || (c && not (is_body_local p plan x))) judge_same
 
   own_same : (f : ℕ) → stage_of p plan f < last plan → (stage_of p plan f == s) ≡ (stage_of p plan f == j)
@@ -44,7 +49,8 @@ module _ (p : Program) (plan : Plan) (m : Marks) (s : ℕ) (high : last plan ≤
 
   store_same : (all : List Access) → list_any (λ (a : Access). does_store p plan s a.stores) all ≡ list_any (λ (a : Access). does_store p plan j a.stores) all
   store_same [] = refl
-  store_same (a ∷ all) = ap (λ c. c || list_any (λ (a : Access). does_store p plan s a.stores) all) (by a.stores) ∙ ap (λ c. does_store p plan j a.stores || c) (store_same all)
+  store_same (a ∷ all) =
+      ap (λ c. c || list_any (λ (a : Access). does_store p plan s a.stores) all) (by a.stores) ∙ ap (λ c. does_store p plan j a.stores || c) (store_same all)
     where
       by : (o : Option ℕ) → does_store p plan s o ≡ does_store p plan j o
       by None = refl
@@ -52,7 +58,8 @@ module _ (p : Program) (plan : Plan) (m : Marks) (s : ℕ) (high : last plan ≤
 
   -- ---- a statement by its head
 
-  pub choice_same : (site : SiteId) (cond : Expr) (a b : List Stmt) → stage_of p plan site.0 < last plan → leaned p plan m s a ≡ leaned p plan m j a → leaned p plan m s b ≡ leaned p plan m j b →
+  pub choice_same : (site : SiteId) (cond : Expr) (a b : List Stmt) → stage_of p plan site.0 < last plan → leaned p plan m s a ≡ leaned p plan m j a →
+      leaned p plan m s b ≡ leaned p plan m j b →
       lean_at p plan m s (If site cond a b) ≡ lean_at p plan m j (If site cond a b)
   choice_same site cond a b low e f = λ i. kept_when (kept_same site.0 low i || has_some p plan m s (e i) (f i)) (tree.If site cond (e i) (f i))
 
@@ -92,7 +99,8 @@ module _ (p : Program) (plan : Plan) (m : Marks) (s : ℕ) (high : last plan ≤
         by (Region r site cond a) is k = absurd (cc k)
         by (Call f line args) is k = absurd (cc k)
 
-    block_same : (x : Stmt) (b : List Stmt) → m.block_at (site_at x) ≡ x ∷ b → Low (accesses x) → is_kept_block p plan s (x ∷ b) ≡ is_kept_block p plan j (x ∷ b)
+    block_same : (x : Stmt) (b : List Stmt) → m.block_at (site_at x) ≡ x ∷ b → Low (accesses x) →
+        is_kept_block p plan s (x ∷ b) ≡ is_kept_block p plan j (x ∷ b)
     block_same x b is low =
         let t = stage_of p plan (site_at x) in
         let q = (and_parts (is_quiet p plan t x) (all_quiet p plan t b) (marked.quiet (site_at x) x b is)).0 in
@@ -101,7 +109,8 @@ module _ (p : Program) (plan : Plan) (m : Marks) (s : ℕ) (high : last plan ≤
 
     -- ---- a text with its blocks
 
-    stands_alone : (x : Stmt) (rest : List Stmt) → m.block_at (site_at x) ≡ [] → lean p plan m s x ≡ lean p plan m j x → leaned p plan m s rest ≡ leaned p plan m j rest →
+    stands_alone : (x : Stmt) (rest : List Stmt) → m.block_at (site_at x) ≡ [] → lean p plan m s x ≡ lean p plan m j x →
+        leaned p plan m s rest ≡ leaned p plan m j rest →
         leaned p plan m s (x ∷ rest) ≡ leaned p plan m j (x ∷ rest)
     stands_alone x rest none e f = lean_alone p plan m s x rest none ∙ (λ i. e i ++ f i) ∙ sym (lean_alone p plan m j x rest none)
 
@@ -114,7 +123,8 @@ module _ (p : Program) (plan : Plan) (m : Marks) (s : ℕ) (high : last plan ≤
         let both = each_split (λ a. stage_of p plan a.site < last plan) (accesses x) (accesses_all rest) low in
         let here = low_head x (If site cond a b) is both.0 in
         let parts = each_split (λ a. stage_of p plan a.site < last plan) (accesses_all a) (accesses_all b) here.1 in
-        stands_alone x rest plain.0 (by_head x (If site cond a b) is (choice_same site cond a b here.0 (text_same u parts.0) (text_same v parts.1))) (text_same t both.1)
+        stands_alone x rest plain.0 (by_head x (If site cond a b) is (choice_same site cond a b here.0 (text_same u parts.0) (text_same v parts.1)))
+        (text_same t both.1)
     text_same (texts.loop {x = x} {rest = rest} {a = a} {site = site} {cond = cond} plain is u t) low =
         let both = each_split (λ a. stage_of p plan a.site < last plan) (accesses x) (accesses_all rest) low in
         let here = low_head x (While site cond a) is both.0 in

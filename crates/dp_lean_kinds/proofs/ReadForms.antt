@@ -1,5 +1,6 @@
 -- The sites that a walk reads, by the statement's form.
-use Rattle.dp_semantics.proofs.Names.{opened_statement, hidden-the_row-Stmt-0, ◌≡◌, refl, ap, ◌∙◌, ℕ, zero, suc, if◌then◌else◌, List, [], ◌∷◌, ◌++◌, take, SiteId, Expr, Stmt, out-Stmt, Program, Plan, site_of, assumed_in}
+use Rattle.dp_semantics.proofs.Names.{opened_statement, hidden-the_row-Stmt-0, ◌≡◌, refl, ap, ◌∙◌, ℕ, zero, suc, if◌then◌else◌, List, [], ◌∷◌, ◌++◌, take}
+use Rattle.dp_semantics.proofs.Names.{SiteId, Expr, Stmt, out-Stmt, Program, Plan, site_of, assumed_in}
 use Rattle.dp_base.specs.declared.VarId.{VarId}
 use Rattle.dp_tree.specs.declared.Stmt.TheVariants as tree
 use Rattle.dp_tree.specs.Statements.{listed}
@@ -75,6 +76,7 @@ module _ (p : Program) (plan : Plan) (s : ℕ) (k : Known) where
   unfolding read opened_statement
   read-While site cond a = λ i. if reaches p plan s k site then choice_read p plan s k site (row_hidden zero a i) else []
 
-  pub read-Region : (r : ℕ) (site : SiteId) (cond : Expr) (a : List Stmt) → read p plan s k (tree.Region r site cond a) ≡ choice_read p plan s k site (all_read a)
+  pub read-Region : (r : ℕ) (site : SiteId) (cond : Expr) (a : List Stmt) → read p plan s k (tree.Region r site cond a) ≡ choice_read p plan
+      s k site (all_read a)
   unfolding read opened_statement
   read-Region r site cond a = λ i. choice_read p plan s k site (row_hidden zero a i)

@@ -1,7 +1,8 @@
 -- Statements of a stage's text whose sites in its lean text are known, wherever they stand: alone, one behind the other, and kept or not.
-use Rattle.dp_semantics.proofs.Names.{◌≡◌, refl, sym, ap, ◌∙◌, subst, append_assoc, append-nil, or-false, not, ℕ, ◌==◌, ◌||◌, if◌then◌else◌, Bool, true, false, List, [], ◌∷◌, ◌++◌, map, flat_map-append, Stmt, Program, Plan, Access, accesses}
+use Rattle.dp_semantics.proofs.Names.{◌≡◌, refl, sym, ap, ◌∙◌, subst, append_assoc, append-nil, or-false, not, ℕ, ◌==◌, ◌||◌, if◌then◌else◌, Bool, true, false}
+use Rattle.dp_semantics.proofs.Names.{List, [], ◌∷◌, ◌++◌, map, flat_map-append, Stmt, Program, Plan, Access, accesses}
 use Rattle.dp_plan.specs.Checked.{has_site}
-use Rattle.dp_plan.specs.Written.{site_in}
+use Rattle.dp_plan.specs.Written.{access_site}
 use Rattle.dp_semantics.proofs.Heads.{accesses_all}
 use Rattle.dp_net.specs.NetItems.{Marks, is_nil}
 use Rattle.dp_net.proofs.Texts.{site_at}
@@ -23,7 +24,7 @@ pub any_join : (a b : List ℕ) → has_any (a ++ b) ≡ (has_any a || has_any b
 any_join [] b = refl
 any_join (n ∷ a) b = refl
 
-pub number_in : (y : ℕ) (all : List Access) → has_site y all ≡ has_number y (map site_in all)
+pub number_in : (y : ℕ) (all : List Access) → has_site y all ≡ has_number y (map access_site all)
 number_in y [] = refl
 number_in y (a ∷ all) = ap (λ c. (a.site == y) || c) (number_in y all)
 
@@ -80,7 +81,8 @@ module _ (p : Program) (plan : Plan) (s : ℕ) (m : Marks) where
         Piece (x ∷ []) (if kept then sites else [])
     piece_stays true is same some = record {
       reads = λ ys y.
-          ap (λ (zs : List Stmt). has_site y (accesses_all zs)) (left true is ys) ∙ has_join y (accesses z) (accesses_all (leaned p plan m s ys)) ∙ ap (λ c. c || has_in y ys) (same y);
+          ap (λ (zs : List Stmt). has_site y (accesses_all zs)) (left true is ys) ∙ has_join y (accesses z) (accesses_all (leaned p plan m s ys))
+          ∙ ap (λ c. c || has_in y ys) (same y);
       leaves = λ ys. ap (λ (zs : List Stmt). not (is_nil zs)) (left true is ys) ∙ sym (ap (λ c. c || has_left ys) some);
     }
     piece_stays false is same some = record {
@@ -89,9 +91,9 @@ module _ (p : Program) (plan : Plan) (s : ℕ) (m : Marks) where
     }
 
   -- a block, which is kept or not
-  module _ (x : Stmt) (b : List Stmt) (is : m.block_at (site_at x) ≡ x ∷ b) (some : has_any (map site_in (accesses_all (x ∷ b))) ≡ true) where
+  module _ (x : Stmt) (b : List Stmt) (is : m.block_at (site_at x) ≡ x ∷ b) (some : has_any (map access_site (accesses_all (x ∷ b))) ≡ true) where
     block_by : (kept : Bool) → ((ys : List Stmt) → leaned p plan m s (x ∷ (b ++ ys)) ≡ if_kept p plan m s kept (x ∷ b) ++ leaned p plan m s ys) →
-        Piece (x ∷ b) (if kept then map site_in (accesses_all (x ∷ b)) else [])
+        Piece (x ∷ b) (if kept then map access_site (accesses_all (x ∷ b)) else [])
     block_by true left = record {
       reads = λ ys y.
           ap (λ (zs : List Stmt). has_site y (accesses_all zs)) (left ys)
@@ -104,5 +106,5 @@ module _ (p : Program) (plan : Plan) (s : ℕ) (m : Marks) where
       leaves = λ ys. ap (λ (zs : List Stmt). not (is_nil zs)) (left ys);
     }
 
-    pub piece_block : Piece (x ∷ b) (if is_kept_block p plan s (x ∷ b) then map site_in (accesses_all (x ∷ b)) else [])
+    pub piece_block : Piece (x ∷ b) (if is_kept_block p plan s (x ∷ b) then map access_site (accesses_all (x ∷ b)) else [])
     piece_block = block_by (is_kept_block p plan s (x ∷ b)) (λ ys. lean_block p plan m s x b ys is)

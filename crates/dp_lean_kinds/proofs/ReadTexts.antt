@@ -1,5 +1,7 @@
 -- The sites that the walk reads are those of the lean text, where what it looks up is right and blocks stand whole: a statement at a time.
-use Rattle.dp_semantics.proofs.Names.{◌≡◌, refl, sym, ap, ◌∙◌, subst, or-false, ℕ, ◌==◌, ◌&&◌, ◌||◌, nat_le, if◌then◌else◌, Bool, true, false, List, [], ◌∷◌, ◌++◌, SiteId, Expr, Stmt, out-Stmt, Stmt-F, Program, Plan, accesses, first_site, site_of, stage_of, project, where_reached}
+use Rattle.dp_semantics.proofs.Names.{◌≡◌, refl, sym, ap, ◌∙◌, subst, or-false, ℕ, ◌==◌, ◌&&◌, ◌||◌, nat_le, if◌then◌else◌, Bool, true, false, List, [], ◌∷◌}
+use Rattle.dp_semantics.proofs.Names.{◌++◌, SiteId, Expr, Stmt, out-Stmt, Stmt-F, Program, Plan, accesses, first_site, site_of, stage_of, project}
+use Rattle.dp_semantics.proofs.Names.{where_reached}
 use Rattle.dp_tree.specs.declared.Stmt.TheVariants as tree
 use Rattle.dp_tree.specs.declared.Stmt.TheVariants.{outs-If, outs-While}
 use Rattle.dp_tree.specs.declared.Stmt.TheViews.{outs-If', outs-While', outs-Region', outs-Call}
@@ -16,7 +18,8 @@ use Rattle.dp_lean_kinds.specs.steps.Read.{has_number, has_any, site_when, leaf_
 unfoldable use Rattle.dp_lean_kinds.specs.steps.Read.{read}
 use Rattle.dp_lean_kinds.proofs.ReadPieces.{Piece, has_left, number_join, any_join, piece_nil, piece_as, piece_if, piece_alone, piece_has, piece_stays}
 
-module _ (p : Program) (plan : Plan) (s : ℕ) (m : Marks) (k : Known) (checks : (f : ℕ) → k.checked f ≡ is_checked p plan f) (dones : (x : ℕ) → k.done x ≡ is_done_to p plan s x) where
+module _ (p : Program) (plan : Plan) (s : ℕ) (m : Marks) (k : Known) (checks : (f : ℕ) → k.checked f ≡ is_checked p plan f)
+    (dones : (x : ℕ) → k.done x ≡ is_done_to p plan s x) where
   abbrev One : List Stmt → List ℕ → Type 0
   One zs sites = Piece p plan s m zs sites
 
@@ -29,7 +32,8 @@ module _ (p : Program) (plan : Plan) (s : ℕ) (m : Marks) (k : Known) (checks :
   leaf_sites false kept site = refl
 
   module _ (x : Stmt) (site : SiteId) (also asked : Bool) (none : m.block_at (site_at x) ≡ []) where
-    leaf_piece : lean p plan m s x ≡ kept_when (is_kept_site p plan s site.0 || asked) x → also ≡ asked → ((y : ℕ) → has_site y (accesses x) ≡ has_number y (site.0 ∷ [])) →
+    leaf_piece : lean p plan m s x ≡ kept_when (is_kept_site p plan s site.0 || asked) x → also ≡ asked →
+        ((y : ℕ) → has_site y (accesses x) ≡ has_number y (site.0 ∷ [])) →
         One (where_reached p plan s site.0 (x ∷ []) []) (leaf_read p plan s k site also)
     leaf_piece is asks same = piece_as p plan s m
         (leaf_sites (nat_le (stage_of p plan site.0) s) (is_kept_site p plan s site.0 || asked) site
@@ -59,7 +63,8 @@ module _ (p : Program) (plan : Plan) (s : ℕ) (m : Marks) (k : Known) (checks :
   or_swap false true = refl
   or_swap false false = refl
 
-  closed_same : (site : SiteId) (inner : List ℕ) (own : Bool) → (if own || has_any inner then inner ++ site.0 ∷ [] else []) ≡ inner ++ site_when (own || has_any inner) site
+  closed_same : (site : SiteId) (inner : List ℕ) (own : Bool) → (if own || has_any inner then inner ++ site.0 ∷ [] else []) ≡ inner
+      ++ site_when (own || has_any inner) site
   closed_same site [] true = refl
   closed_same site [] false = refl
   closed_same site (n ∷ inner) true = refl
@@ -90,15 +95,18 @@ module _ (p : Program) (plan : Plan) (s : ℕ) (m : Marks) (k : Known) (checks :
 
       test : kept ≡ (keeps p plan s k site || has_any (f ++ g))
       test = ap (λ c. c || has_some p plan m s (leaned p plan m s a) (leaned p plan m s b)) (sym (kept_is site))
-          ∙ ap (λ c. keeps p plan s k site || (c || has_left p plan s m b)) (piece_has p plan s m one) ∙ ap (λ c. keeps p plan s k site || (has_any f || c)) (piece_has p plan s m two)
+          ∙ ap (λ c. keeps p plan s k site || (c || has_left p plan s m b)) (piece_has p plan s m one) ∙ ap (λ c. keeps p plan s k site || (has_any f || c))
+          (piece_has p plan s m two)
           ∙ ap (λ c. keeps p plan s k site || c) (sym (any_join f g))
 
       same : (y : ℕ) → has_site y (accesses z) ≡ has_number y ((f ++ g) ++ site.0 ∷ [])
       same y = ap (has_site y) (accesses_out z ∙ ap accesses_at (outs-If site cond (leaned p plan m s a) (leaned p plan m s b)))
           ∙ sites_last y site (f ++ g) _ (has_join y (accesses_all (leaned p plan m s a)) (accesses_all (leaned p plan m s b))
-          ∙ ap (λ c. c || has_site y (accesses_all (leaned p plan m s b))) (piece_alone p plan s m one y) ∙ ap (λ c. has_number y f || c) (piece_alone p plan s m two y) ∙ sym (number_join y f g))
+          ∙ ap (λ c. c || has_site y (accesses_all (leaned p plan m s b))) (piece_alone p plan s m one y)
+          ∙ ap (λ c. has_number y f || c) (piece_alone p plan s m two y) ∙ sym (number_join y f g))
 
-  pub loop_one : (site : SiteId) (cond : Expr) (a : List Stmt) (f : List ℕ) → m.block_at site.0 ≡ [] → One a f → One (tree.While site cond a ∷ []) (choice_read p plan s k site f)
+  pub loop_one : (site : SiteId) (cond : Expr) (a : List Stmt) (f : List ℕ) → m.block_at site.0 ≡ [] → One a f →
+      One (tree.While site cond a ∷ []) (choice_read p plan s k site f)
   loop_one site cond a f none one =
       piece_as p plan s m (ap (λ c. if c then f ++ site.0 ∷ [] else []) test ∙ closed_same site f (keeps p plan s k site))
       (piece_stays p plan s m x z (f ++ site.0 ∷ []) (ap (λ (h : Stmt-F Stmt). m.block_at (site_of h).0) (outs-While site cond a) ∙ none) kept
@@ -118,4 +126,5 @@ module _ (p : Program) (plan : Plan) (s : ℕ) (m : Marks) (k : Known) (checks :
           ∙ ap (λ c. keeps p plan s k site || c) (or-false (has_left p plan s m a) ∙ piece_has p plan s m one)
 
       same : (y : ℕ) → has_site y (accesses z) ≡ has_number y (f ++ site.0 ∷ [])
-      same y = ap (has_site y) (accesses_out z ∙ ap accesses_at (outs-While site cond (leaned p plan m s a))) ∙ sites_last y site f _ (piece_alone p plan s m one y)
+      same y = ap (has_site y) (accesses_out z ∙ ap accesses_at (outs-While site cond (leaned p plan m s a)))
+          ∙ sites_last y site f _ (piece_alone p plan s m one y)

@@ -1,5 +1,7 @@
 -- A region has as many kinds as sites, and a site that is read has a place among them.
-use Rattle.dp_semantics.proofs.Names.{◌≡◌, inl, inr, refl, sym, ap, ◌∙◌, arith, length-append, ℕ, zero, suc, ◌+◌, ◌-◌, ◌<◌, ◌≤◌, ◌||◌, Bool, true, false, List, [], ◌∷◌, length, map, cases_lt, list_any, flat_map, Stmt, Program, Plan, accesses, first_site, region_statement, region_accesses, project_all}
+use Rattle.dp_semantics.proofs.Names.{◌≡◌, inl, inr, refl, sym, ap, ◌∙◌, arith, length-append, ℕ, zero, suc, ◌+◌, ◌-◌, ◌<◌, ◌≤◌, ◌||◌, Bool, true, false, List}
+use Rattle.dp_semantics.proofs.Names.{[], ◌∷◌, length, map, cases_lt, list_any, flat_map, Stmt, Program, Plan, accesses, first_site, region_statement}
+use Rattle.dp_semantics.proofs.Names.{region_accesses, project_all}
 use Rattle.std.proofs.lemmas.List.{length-map}
 use Rattle.dp_tree.specs.declared.Stmt.TheVariants as tree
 use Rattle.dp_tree.specs.Numbering.{numbers_from}
@@ -7,7 +9,7 @@ use Rattle.dp_tree.specs.Statements.{asked}
 use Rattle.dp_tree.proofs.Asked.{asked_both}
 use Rattle.dp_plan.specs.Access.{access_at}
 use Rattle.dp_plan.specs.Checked.{has_site}
-use Rattle.dp_plan.specs.Written.{site_in}
+use Rattle.dp_plan.specs.Written.{access_site}
 use Rattle.dp_plan.proofs.Ascent.{Ascends}
 use Rattle.dp_net.specs.NetItems.{Marks}
 use Rattle.dp_lean.specs.Laws.{is_read}
@@ -20,7 +22,8 @@ unfoldable use Rattle.dp_lean_kinds.specs.ColumnKinds.{formed_at}
 
 one_formed : (x : Stmt) → length (asked formed_at x) ≡ length (accesses x)
 unfolding formed_at
-one_formed x = asked_both (λ a c. length a ≡ length c) refl (λ a b c d e f. let g = length-append a b in let h = length-append c d in omega (arith, e, f, g, h)) formed_at access_at each x
+one_formed x = asked_both (λ a c. length a ≡ length c) refl (λ a b c d e f. let g = length-append a b in let h = length-append c d in
+    omega (arith, e, f, g, h)) formed_at access_at each x
   where
     each : (x : Stmt) → length (formed_at x) ≡ length (access_at x)
     each (tree.Assign site x e) = refl
@@ -76,11 +79,14 @@ module _ (p : Program) (plan : Plan) (m : Marks) where
       by true is = refl
       by false is = let clash = sym (read_in_region s y is) ∙ e in absurd (cc clash)
 
-  pub read_place : Ascends (first_site p plan) (map site_in (region_accesses p plan)) → (s y : ℕ) → is_read p plan m s y ≡ true → y - first_site p plan < length (region_accesses p plan)
+  pub read_place : Ascends (first_site p plan) (map access_site (region_accesses p plan)) → (s y : ℕ) → is_read p plan m s y ≡ true →
+      y - first_site p plan < length (region_accesses p plan)
   read_place up s y e = elim (cases_lt y (first_site p plan)) [
-    | inl low ↦ let none = read_in_region s y (none_below (first_site p plan) y (region_accesses p plan) up low) in let clash = sym none ∙ e in absurd (cc clash)
+    | inl low ↦ let none = read_in_region s y (none_below (first_site p plan) y (region_accesses p plan) up low) in
+        let clash = sym none ∙ e in absurd (cc clash)
     | inr from ↦ elim (cases_lt y (first_site p plan + length (region_accesses p plan))) [
       | inl inside ↦ omega (arith, from, inside)
-      | inr past ↦ let none = read_in_region s y (none_past (first_site p plan) y (region_accesses p plan) up past) in let clash = sym none ∙ e in absurd (cc clash)
+      | inr past ↦ let none = read_in_region s y (none_past (first_site p plan) y (region_accesses p plan) up past) in
+          let clash = sym none ∙ e in absurd (cc clash)
     ]
   ]

@@ -32,7 +32,8 @@ struct Reading<'a> {
 impl<'a> Reading<'a> {
     /// Appends the site of a statement with no others inside, which is kept because of its site or for another reason.
     fn leaf(self, out: &mut Row<u32>, site: SiteId, also: bool) -> Result<(), NoMemory>
-        ensures { OnOk result (out.new ≡ out.old ++ spec.leaf_read self.entry.stage.program.now self.entry.stage.plan.now self.entry.stage.number (known_of self.entry.stage.program.now self.entry.stage.plan.now self.entry.stage.tables.now self.entry.stage.number) site also) }
+        ensures { OnOk result (out.new ≡ out.old ++ spec.leaf_read self.entry.stage.program.now self.entry.stage.plan.now self.entry.stage.number
+            (known_of self.entry.stage.program.now self.entry.stage.plan.now self.entry.stage.tables.now self.entry.stage.number) site also) }
     {
         let stays = self.stage.reaches(site) && (self.stage.keeps(site) || also);
         put_when(out, stays, site)
@@ -40,7 +41,9 @@ impl<'a> Reading<'a> {
 
     /// Appends the site of a choice or a loop, where it is kept or something inside it is read: what stands from `start` on.
     fn close(self, out: &mut Row<u32>, site: SiteId, start: usize) -> Result<(), NoMemory>
-        ensures { OnOk result (out.new ≡ out.old ++ spec.site_when (walked.keeps self.entry.stage.program.now self.entry.stage.plan.now self.entry.stage.number (known_of self.entry.stage.program.now self.entry.stage.plan.now self.entry.stage.tables.now self.entry.stage.number) site || nat_lt start (length out.old)) site) }
+        ensures { OnOk result (out.new ≡ out.old ++ spec.site_when (walked.keeps self.entry.stage.program.now self.entry.stage.plan.now self.entry.stage.number
+            (known_of self.entry.stage.program.now self.entry.stage.plan.now self.entry.stage.tables.now self.entry.stage.number) site || nat_lt start
+            (length out.old)) site) }
     {
         let kept = self.stage.keeps(site) || start < out.len();
         put_when(out, kept, site)
@@ -48,7 +51,8 @@ impl<'a> Reading<'a> {
 
     /// The block is kept: it is the stage's own, or another one's of which a store is done.
     fn keeps(self, site: SiteId, block: &[Stmt]) -> bool
-        ensures { result ≡ spec.keeps_block self.entry.stage.program.now self.entry.stage.plan.now self.entry.stage.number (known_of self.entry.stage.program.now self.entry.stage.plan.now self.entry.stage.tables.now self.entry.stage.number) site block.now }
+        ensures { result ≡ spec.keeps_block self.entry.stage.program.now self.entry.stage.plan.now self.entry.stage.number
+            (known_of self.entry.stage.program.now self.entry.stage.plan.now self.entry.stage.tables.now self.entry.stage.number) site block.now }
     {
         self.stage.reaches(site) && (self.stage.owns(site) || self.stage.does_inside(block))
     }
@@ -61,7 +65,8 @@ impl<'a> Reading<'a> {
         all: &[Stmt],
         count: u32,
     ) -> Result<(), NoMemory>
-        ensures { OnOk result (out.new ≡ out.old ++ spec.block_read self.entry.stage.program.now self.entry.stage.plan.now self.entry.stage.number (known_of self.entry.stage.program.now self.entry.stage.plan.now self.entry.stage.tables.now self.entry.stage.number) site (take count all.now)) }
+        ensures { OnOk result (out.new ≡ out.old ++ spec.block_read self.entry.stage.program.now self.entry.stage.plan.now self.entry.stage.number
+            (known_of self.entry.stage.program.now self.entry.stage.plan.now self.entry.stage.tables.now self.entry.stage.number) site (take count all.now)) }
     {
         let block = front(all, count as usize);
         if self.keeps(site, block) {
@@ -73,7 +78,8 @@ impl<'a> Reading<'a> {
     /// Appends the sites that are read of a statement outside of blocks.
     #[cycle(reads)]
     fn statement(self, out: &mut Row<u32>, statement: &Stmt) -> Result<(), NoMemory>
-        ensures { OnOk result (out.new ≡ out.old ++ spec.read self.entry.stage.program.now self.entry.stage.plan.now self.entry.stage.number (known_of self.entry.stage.program.now self.entry.stage.plan.now self.entry.stage.tables.now self.entry.stage.number) statement.now) }
+        ensures { OnOk result (out.new ≡ out.old ++ spec.read self.entry.stage.program.now self.entry.stage.plan.now self.entry.stage.number
+            (known_of self.entry.stage.program.now self.entry.stage.plan.now self.entry.stage.tables.now self.entry.stage.number) statement.now) }
     {
         match statement {
             Stmt::Assign { site, var, .. } => self.leaf(out, *site, self.stage.does(*var)),
@@ -110,7 +116,8 @@ impl<'a> Reading<'a> {
     /// Appends the sites that are read of statements, and then that of the loop around them.
     #[cycle(reads)]
     fn around(self, out: &mut Row<u32>, site: SiteId, body: &[Stmt]) -> Result<(), NoMemory>
-        ensures { OnOk result (out.new ≡ out.old ++ spec.loop_read self.entry.stage.program.now self.entry.stage.plan.now self.entry.stage.number (known_of self.entry.stage.program.now self.entry.stage.plan.now self.entry.stage.tables.now self.entry.stage.number) site body.now) }
+        ensures { OnOk result (out.new ≡ out.old ++ spec.loop_read self.entry.stage.program.now self.entry.stage.plan.now self.entry.stage.number
+            (known_of self.entry.stage.program.now self.entry.stage.plan.now self.entry.stage.tables.now self.entry.stage.number) site body.now) }
     {
         let start = out.len();
         self.statements(out, body)?;
@@ -120,7 +127,8 @@ impl<'a> Reading<'a> {
     /// Appends the sites that are read of statements one after the other, the blocks among them whole.
     #[cycle(reads)]
     fn statements(self, out: &mut Row<u32>, all: &[Stmt]) -> Result<(), NoMemory>
-        ensures { OnOk result (out.new ≡ out.old ++ spec.list_read self.entry.stage.program.now self.entry.stage.plan.now self.entry.stage.number (known_of self.entry.stage.program.now self.entry.stage.plan.now self.entry.stage.tables.now self.entry.stage.number) zero all.now) }
+        ensures { OnOk result (out.new ≡ out.old ++ spec.list_read self.entry.stage.program.now self.entry.stage.plan.now self.entry.stage.number
+            (known_of self.entry.stage.program.now self.entry.stage.plan.now self.entry.stage.tables.now self.entry.stage.number) zero all.now) }
     {
         let mut left = 0;
         for (place, statement) in all.iter().enumerate() {
@@ -142,7 +150,8 @@ impl<'a> Reading<'a> {
 
     /// Appends the sites that the stage reads.
     fn region(self, out: &mut Row<u32>) -> Result<(), NoMemory>
-        ensures { OnOk result (out.new ≡ out.old ++ spec.stage_read self.entry.stage.program.now self.entry.stage.plan.now self.entry.stage.tables.now self.entry.stage.number) }
+        ensures { OnOk result (out.new ≡ out.old ++ spec.stage_read self.entry.stage.program.now self.entry.stage.plan.now self.entry.stage.tables.now
+            self.entry.stage.number) }
     {
         for statement in self.stage.program.main.as_slice() {
             if is_region(self.stage.plan.region, statement) {

@@ -58,7 +58,8 @@ impl<'a> Keeping<'a> {
     }
 
     fn kind(self, formed: &FormedSite) -> ColumnKind
-        ensures { result ≡ step.kind_among self.entry.stage.program.now self.entry.stage.plan.now self.entry.stage.tables.now self.entry.stage.number self.entry.reads.now formed.now }
+        ensures { result ≡ step.kind_among self.entry.stage.program.now self.entry.stage.plan.now self.entry.stage.tables.now self.entry.stage.number
+            self.entry.reads.now formed.now }
     {
         if !self.stage.owns(formed.site) || !self.is_needed(formed.site) {
             return ColumnKind::Nothing;
@@ -71,7 +72,8 @@ impl<'a> Keeping<'a> {
     }
 
     fn kinds(self, alloc: Global, sites: &[FormedSite]) -> Result<Row<ColumnKind>, NoMemory>
-        ensures { IfOk result (λ made. made ≡ map (step.kind_among self.entry.stage.program.now self.entry.stage.plan.now self.entry.stage.tables.now self.entry.stage.number self.entry.reads.now) sites.now) }
+        ensures { IfOk result (λ made. made ≡ map (step.kind_among self.entry.stage.program.now self.entry.stage.plan.now self.entry.stage.tables.now
+            self.entry.stage.number self.entry.reads.now) sites.now) }
     {
         let mut made = Row::new(alloc);
         for site in sites {

@@ -1,5 +1,6 @@
 -- Columns that take the place of others among those of the stages.
-use Rattle.dp_semantics.proofs.Names.{◌≡◌, refl, sym, ap, ◌∙◌, arith, ℕ, zero, suc, ◌<◌, List, [], ◌∷◌, ◌++◌, length, map, take, Some, slice_get, slice_set, get_or}
+use Rattle.dp_semantics.proofs.Names.{◌≡◌, refl, sym, ap, ◌∙◌, arith, ℕ, zero, suc, ◌<◌, List, [], ◌∷◌, ◌++◌, length, map, take, Some, slice_get, slice_set}
+use Rattle.dp_semantics.proofs.Names.{get_or}
 use Rattle.dp_columns.specs.Left.{Left}
 use Rattle.dp_lean_epoch.specs.LeanBatch.{no_columns}
 use Rattle.dp_lean_machine.specs.Held.{kinds_in, held_in}
@@ -22,7 +23,8 @@ take_before [] (suc s) h = refl
 take_before (x ∷ xs) zero h = refl
 take_before (x ∷ xs) (suc s) h = ap (λ (ys : List StageColumns). x ∷ ys) (take_before xs s h)
 
-pub kinds_back : (xs : List StageColumns) (s : ℕ) (h v x : StageColumns) → slice_get xs s ≡ Some x → kinds_in v ≡ kinds_in x → map kinds_in (slice_set (slice_set xs s h) s v) ≡ map kinds_in xs
+pub kinds_back : (xs : List StageColumns) (s : ℕ) (h v x : StageColumns) → slice_get xs s ≡ Some x → kinds_in v ≡ kinds_in x →
+    map kinds_in (slice_set (slice_set xs s h) s v) ≡ map kinds_in xs
 kinds_back [] s h v x is same = absurd (cc is)
 kinds_back (y ∷ xs) zero h v x is same = ap (λ (ks : List _). ks ∷ map kinds_in xs) (same ∙ ap kinds_in (sym (some_is is)))
   where
@@ -45,7 +47,8 @@ kinds_taken (x ∷ xs) zero = refl
 kinds_taken (x ∷ xs) (suc s) = ap (λ (ks : List _). kinds_in x ∷ ks) (kinds_taken xs s)
 
 -- a stage's reader has all that its columns tell
-pub read_all : (cs : List StageColumns) (t : ℕ) (reader : Left) → slice_get (map read_of cs) t ≡ Some reader → (get_or (map held_in cs) t no_columns).columns.told ≡ reader.told
+pub read_all : (cs : List StageColumns) (t : ℕ) (reader : Left) → slice_get (map read_of cs) t ≡ Some reader →
+    (get_or (map held_in cs) t no_columns).columns.told ≡ reader.told
 read_all [] t reader is = absurd (cc is)
 read_all (c ∷ cs) zero reader is = ap (λ (l : Left). l.told) (some_is is)
   where

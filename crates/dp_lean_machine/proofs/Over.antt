@@ -6,12 +6,12 @@ use Rattle.dp_columns.specs.Left.{Left}
 use Rattle.dp_lean_turn.specs.declared.Turn.{Turn}
 use Rattle.dp_lean_turn.specs.Ending.{CanTurn}
 use Rattle.dp_lean_turn.specs.Left.{AreLeft, all_kinds}
-use Rattle.dp_lean_epoch.specs.Coming.{Coming, LeanStands}
-use Rattle.dp_lean_region.specs.LeanEpoch.{LeanEpoch, marks_in, begin_in}
+use Rattle.dp_lean_epoch.specs.Coming.{QueuesBring, LeanStands}
+use Rattle.dp_lean_region.specs.LeanEpoch.{LeanEpoch, epoch_marks, begin_in}
 use Rattle.dp_lean_region.specs.Line.{RunsIn}
 use Rattle.dp_lean_machine.specs.Held.{kinds_in}
 use Rattle.dp_lean_region.specs.Ready.{CanRead, IsStageReady}
-use Rattle.dp_lean_machine.specs.Within.{read_of, Within, Comes, IsDone, IsRan}
+use Rattle.dp_lean_machine.specs.Within.{read_of, Within, ComesWithColumns, IsDone, IsRan}
 use Rattle.dp_lean_machine.specs.declared.turning.Ran.{Ran}
 use Rattle.dp_lean_region.specs.declared.ReadyStage.{ReadyStage}
 use Rattle.dp_lean_machine.specs.declared.batch.StageColumns.{StageColumns}
@@ -34,12 +34,13 @@ can_over r own earlier can t empty readers = record {
 }
 
 -- .. where the stage stands in front of all that came
-pub begins : {M : Type 0} (cells : M → List ℤ) (e : LeanEpoch) (s b n : ℕ) (r : ReadyStage) → RunsIn e s r → (own : List ColumnKind) → own ≡ r.frame.kinds.own.now →
-    (earlier : List StageColumns) → Comes e s b n earlier → (t : Turn M) → LeanStands (marks_in e) e.key (suc s) (begin_in e b) (cells t.memory) →
+pub begins : {M : Type 0} (cells : M → List ℤ) (e : LeanEpoch) (s b n : ℕ) (r : ReadyStage) → RunsIn e s r → (own : List ColumnKind) →
+    own ≡ r.frame.kinds.own.now →
+    (earlier : List StageColumns) → ComesWithColumns e s b n earlier → (t : Turn M) → LeanStands (epoch_marks e) e.key (suc s) (begin_in e b) (cells t.memory) →
     t.teller.own ≡ nothing_kept own → t.readers ≡ map read_of earlier → (counts : List ℕ) → counts ≡ [] → Within e s b cells n 0 t counts
 begins cells e s b n r runs own own_is earlier comes t stands empty readers counts none = record {
   memory = λ q. (let same : begin_in e b ≡ begin_in e b + 0 = omega arith in
-      subst (λ (i : ℕ). LeanStands (marks_in e) e.key (suc s) i (cells t.memory)) same stands);
+      subst (λ (i : ℕ). LeanStands (epoch_marks e) e.key (suc s) i (cells t.memory)) same stands);
   queues = (
     comes.queues,
     comes.more,
@@ -51,23 +52,25 @@ begins cells e s b n r runs own own_is earlier comes t stands empty readers coun
   same = λ i low. absurd (omega (arith, low));
 }
   where
-    coming : Coming (marks_in e) e.key s (begin_in e b + 0) (n - 0) comes.queues comes.more
+    coming : QueuesBring (epoch_marks e) e.key s (begin_in e b + 0) (n - 0) comes.queues comes.more
     coming =
         let first : begin_in e b ≡ begin_in e b + 0 = omega arith in
         let all : n ≡ n - 0 = omega arith in
-        subst (λ (i : ℕ). Coming (marks_in e) e.key s i (n - 0) comes.queues comes.more) first
-        (subst (λ (j : ℕ). Coming (marks_in e) e.key s (begin_in e b) j comes.queues comes.more) all comes.coming)
+        subst (λ (i : ℕ). QueuesBring (epoch_marks e) e.key s i (n - 0) comes.queues comes.more) first
+        (subst (λ (j : ℕ). QueuesBring (epoch_marks e) e.key s (begin_in e b) j comes.queues comes.more) all comes.coming)
 
 -- what the turns leave is what came of them
 pub left_so : {M : Type 0} (cells : M → List ℤ) (e : LeanEpoch) (s b : ℕ) (t : Turn M) (steps : List ℕ) (ran result : Ran) (own : StageColumns) (memory : M) →
-    result ≡ ran → memory ≡ t.memory → own ≡ record { columns = t.teller.own; steps = steps } → IsRan e s b cells t steps ran → IsDone e s b cells result own memory
+    result ≡ ran → memory ≡ t.memory → own ≡ record { columns = t.teller.own; steps = steps } → IsRan e s b cells t steps ran →
+    IsDone e s b cells result own memory
 left_so {M} cells e s b t steps ran result own memory same memory_is own_is done =
     subst (λ (x : Ran). IsDone e s b cells x own memory) (sym same)
     (subst (λ (c : StageColumns). IsDone e s b cells ran c memory) (sym own_is)
     (subst (λ (m : M). IsDone e s b cells ran (record { columns = t.teller.own; steps = steps }) m) (sym memory_is) done))
 
 -- what it reads is of the kinds for which it is ready
-pub can_read : (kinds : List (List ColumnKind)) (s : ℕ) (r : ReadyStage) → IsStageReady kinds s r → (xs : List StageColumns) → map kinds_in xs ≡ kinds → (was h : StageColumns) →
+pub can_read : (kinds : List (List ColumnKind)) (s : ℕ) (r : ReadyStage) → IsStageReady kinds s r → (xs : List StageColumns) → map kinds_in xs ≡ kinds →
+    (was h : StageColumns) →
     slice_get xs s ≡ Some was → CanRead r (kinds_in was) (map kinds_in (take s (slice_set xs s h)))
 can_read kinds s r ready xs same was h is = record {
   first = ready.first;

@@ -8,7 +8,7 @@ use Rattle.dp_columns.specs.declared.ColumnKind.{ColumnKind}
 use Rattle.dp_columns.specs.Columned.{Columned, nothing_kept, with_told, with_load, loads_ended}
 use Rattle.dp_columns.specs.Telling.{put_load_word, put_done_word, end_word, put_item, put_items}
 use Rattle.dp_lean_turn.specs.Standing.{IsSettled}
-use Rattle.dp_lean_epoch.specs.Holding.{Kept, filled, items_since}
+use Rattle.dp_lean_epoch.specs.Holding.{Kept, columns_filled, items_since}
 use Rattle.dp_plan.specs.Access.{first_site}
 
 -- the kinds are the same, and so are the stores of blocks that aren't ended
@@ -49,6 +49,7 @@ still_settled : (k new : Columned) → SameBlocks k new → IsSettled k → IsSe
 still_settled k new same settled = same.stores ∙ settled ∙ ap (map (λ _. [])) (sym same.kinds)
 
 -- so it is of columns that were empty
-pub filled_settled : (m : Marks) (key : EpochKey) (kept : Kept) (kinds : List ColumnKind) (t k j : ℕ) → IsSettled (filled m key kept kinds t k j)
+pub filled_settled : (m : Marks) (key : EpochKey) (kept : Kept) (kinds : List ColumnKind) (t k j : ℕ) → IsSettled (columns_filled m key kept kinds t k j)
 filled_settled m key kept kinds t k j =
-    still_settled (nothing_kept kinds) (filled m key kept kinds t k j) (items_same (first_site key.program key.plan) kept.told kept.loads (items_since m key kept t k j) (nothing_kept kinds)) refl
+    still_settled (nothing_kept kinds) (columns_filled m key kept kinds t k j) (items_same (first_site key.program key.plan) kept.told kept.loads
+    (items_since m key kept t k j) (nothing_kept kinds)) refl

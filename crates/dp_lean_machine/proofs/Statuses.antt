@@ -5,7 +5,7 @@ use Rattle.dp_net.specs.NetPackets.{NetStatus, NetGoing, NetClosing, NetVoid, ne
 use Rattle.dp_net.specs.Follows.{is_void}
 use Rattle.dp_semantics.specs.EpochKey.{EpochKey}
 use Rattle.dp_lean_epoch.specs.Own.{at_stage, Arrives}
-use Rattle.dp_lean_epoch.specs.LeanBatch.{Stood, Stands}
+use Rattle.dp_lean_epoch.specs.LeanBatch.{Stood, IterationsStand}
 use Rattle.dp_lean_epoch.specs.Steps.{VoidStays}
 
 pub still : (x : NetStatus) → net_status_of x false ≡ x
@@ -23,7 +23,7 @@ alive_at_end NetGoing = refl
 alive_at_end NetClosing = refl
 alive_at_end NetVoid = refl
 
-module _ (m : Marks) (key : EpochKey) (s k r : ℕ) (came : Stood) (stands : Stands m key s k r came) where
+module _ (m : Marks) (key : EpochKey) (s k r : ℕ) (came : Stood) (stands : IterationsStand m key s k r came) where
   -- each iteration that came arrives
   pub arrives : (j : ℕ) → j < came.iterations → Arrives m key s (k + j)
   arrives j low = by (cases_lt (suc j) came.iterations)
@@ -37,7 +37,7 @@ module _ (m : Marks) (key : EpochKey) (s k r : ℕ) (came : Stood) (stands : Sta
 
   -- the one behind these closes
   pub closing : (j : ℕ) → j < came.iterations → ((i : ℕ) → i < j → PassesOn i) → (at_stage m key (suc s) (k + j)).packet.status ≡ NetClosing →
-      Stands m key (suc s) k r (record { iterations = suc j; ends = NetClosing })
+      IterationsStand m key (suc s) k r (record { iterations = suc j; ends = NetClosing })
   closing j low same closes = record {
     within = let most = stands.within in omega (arith, low, most);
     going = λ i more. same i (omega (arith, more)) ∙ stands.going i (omega (arith, more, low));
@@ -49,7 +49,7 @@ module _ (m : Marks) (key : EpochKey) (s k r : ℕ) (came : Stood) (stands : Sta
 
   -- .. or is void
   pub voided : (j : ℕ) → j < came.iterations → ((i : ℕ) → i < j → PassesOn i) → (at_stage m key (suc s) (k + j)).packet.status ≡ NetVoid →
-      Stands m key (suc s) k r (record { iterations = j; ends = NetVoid })
+      IterationsStand m key (suc s) k r (record { iterations = j; ends = NetVoid })
   voided j low same void = record {
     within = let most = stands.within in omega (arith, low, most);
     going = λ i more. same i (omega (arith, more)) ∙ stands.going i (omega (arith, more, low));
@@ -60,7 +60,7 @@ module _ (m : Marks) (key : EpochKey) (s k r : ℕ) (came : Stood) (stands : Sta
   }
 
   -- all go as they came
-  pub alike : VoidStays m key → ((i : ℕ) → i < came.iterations → PassesOn i) → Stands m key (suc s) k r came
+  pub alike : VoidStays m key → ((i : ℕ) → i < came.iterations → PassesOn i) → IterationsStand m key (suc s) k r came
   alike voids same = record {
     within = stands.within;
     going = λ i more. same i (omega (arith, more)) ∙ stands.going i more;

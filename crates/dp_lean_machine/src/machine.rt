@@ -76,10 +76,10 @@ impl LeanMachine {
     ghost use Rattle.std.specs.Prelude.{◌-◌, ℕ};
     ghost use Rattle.dp_net.specs.NetPackets.{NetStatus};
     ghost use Rattle.dp_lean_epoch.specs.Coming.{LeanStands};
-    ghost use Rattle.dp_lean_region.specs.LeanEpoch.{LeanEpoch, IsLeanEpoch, marks_in};
+    ghost use Rattle.dp_lean_region.specs.LeanEpoch.{LeanEpoch, IsLeanEpoch, epoch_marks};
     ghost use Rattle.dp_lean_machine.specs.declared.machine.Kept.TheVariants as kept;
     ghost use Rattle.dp_lean_machine.specs.Sent.{AsStatus, IsSent};
-    ghost use Rattle.dp_lean_machine.specs.Standing.{TakesNext, Stands, Passes};
+    ghost use Rattle.dp_lean_machine.specs.Standing.{TakesNext, MachineStands, Passes};
 
     /// The machine of a stage where an epoch begins.
     pub fn new(
@@ -90,7 +90,7 @@ impl LeanMachine {
     ) -> Result<LeanMachine, NoMemory>
         requires { 0 < stage }
         ensures begins { IfOk result (λ m. (e : LeanEpoch) → IsLeanEpoch e → e.key.plan ≡ plan.now → stage ≤ length plan.now.stages →
-            LeanStands (marks_in e) e.key stage 0 base.now → Stands m e 0) }
+            LeanStands (epoch_marks e) e.key stage 0 base.now → MachineStands m e 0) }
         ensures stage { IfOk result (λ m. m.stage ≡ stage) }
     {
         let kept = kept_at_base(alloc, plan, stage, base)?;
@@ -105,7 +105,7 @@ impl LeanMachine {
 
     /// Makes of a batch what the stage sends of it. One for which memory was wanting stays as it is.
     pub fn run<'p>(&mut self, batch: LeanBatch<'p>) -> LeanBatch<'p>
-        ensures sent { (e : LeanEpoch) (b : ℕ) → Stands self.old e b → IsSent e (self.old.stage - 1) b batch.entry → Passes self.new e b result }
+        ensures sent { (e : LeanEpoch) (b : ℕ) → MachineStands self.old e b → IsSent e (self.old.stage - 1) b batch.entry → Passes self.new e b result }
         ensures stage { self.new.stage ≡ self.old.stage }
     {
         match batch.status {
@@ -118,7 +118,7 @@ impl LeanMachine {
 
     /// The same where memory wasn't wanting.
     fn go<'p>(&mut self, batch: LeanBatch<'p>) -> LeanBatch<'p>
-        ensures sent { (e : LeanEpoch) (b : ℕ) (ends : NetStatus) → AsStatus batch.entry.status ends → Stands self.old e b →
+        ensures sent { (e : LeanEpoch) (b : ℕ) (ends : NetStatus) → AsStatus batch.entry.status ends → MachineStands self.old e b →
             IsSent e (self.old.stage - 1) b batch.entry → Passes self.new e b result }
         ensures stage { self.new.stage ≡ self.old.stage }
     {

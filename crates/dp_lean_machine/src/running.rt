@@ -4,12 +4,12 @@ ghost use Rattle.dp_plan.specs.Access.{is_replicated};
 ghost use Rattle.dp_net.specs.NetPackets.{NetStatus};
 ghost use Rattle.dp_lean_epoch.specs.Coming.{LeanStands};
 ghost use Rattle.dp_lean_epoch.specs.LeanBatch.{IsVersion};
-ghost use Rattle.dp_lean_region.specs.LeanEpoch.{LeanEpoch, marks_in, begin_in};
+ghost use Rattle.dp_lean_region.specs.LeanEpoch.{LeanEpoch, epoch_marks, begin_in};
 ghost use Rattle.dp_lean_region.specs.Line.{IsLineOf, RunsIn, line_kinds};
 ghost use Rattle.dp_lean_region.specs.Ready.{CanRead, HasLocals, IsStageReady};
 ghost use Rattle.dp_lean_machine.specs.Held.{kinds_in};
 ghost use Rattle.dp_lean_machine.specs.Sent.{AsStatus, IsSent};
-ghost use Rattle.dp_lean_machine.specs.Within.{IsCame, Comes, IsDone};
+ghost use Rattle.dp_lean_machine.specs.Within.{IsCame, ComesWithColumns, IsDone};
 ghost use Rattle.dp_lean_machine.specs.RanFrom.{RanFrom};
 
 use crate::desk::{Desk, cleared, keep_rooms, readers_of};
@@ -87,7 +87,7 @@ fn run_over<'p, M: Memory + Drop>(
     requires locals { HasLocals stage }
     ensures done { (e : LeanEpoch) (s b : ℕ) (ends : NetStatus) → AsStatus came.status ends →
         IsCame e s b (record { iterations = came.iterations; ends = ends }) → RunsIn e s stage.entry →
-        Comes e s b came.iterations earlier.now → LeanStands (marks_in e) e.key (suc s) (begin_in e b) (M.cells memory) →
+        ComesWithColumns e s b came.iterations earlier.now → LeanStands (epoch_marks e) e.key (suc s) (begin_in e b) (M.cells memory) →
         IsDone e s b M.cells result.ran result.desk.own result.memory }
     ensures kinds { result.desk.own.columns.kinds ≡ desk.own.columns.kinds }
 {

@@ -66,13 +66,13 @@ fn settle<M: Memory + Drop>(
 /// One iteration more.
 #[inline(always)]
 fn turn_once<'c, 'p, M: Memory + Drop>(
-    stage: ReadyStage<'p>,
+    stage: &ReadyStage<'p>,
     turn: &mut Turn<'c, M>,
     steps: &mut Row<u32>,
 ) -> TurnEnd
-    requires can { CanTurn stage.frame stage.ready turn.old }
-    requires locals { HasLocals stage }
-    ensures steps { (e : LeanEpoch) (s b j : ℕ) (came : Stood) → IsCame e s b came → RunsIn e s stage.entry → j < came.iterations →
+    requires can { CanTurn stage.now.frame stage.now.ready turn.old }
+    requires locals { HasLocals stage.now }
+    ensures steps { (e : LeanEpoch) (s b j : ℕ) (came : Stood) → IsCame e s b came → RunsIn e s stage.now → j < came.iterations →
         Within e s b M.cells came.iterations j turn.old steps.old → ComesTo e s b M.cells came j turn.new steps.new result }
     ensures keeps { Keeps turn.old turn.new }
 {
@@ -110,7 +110,7 @@ pub(crate) fn run_all<'c, 'p, M: Memory + Drop>(
     ensures keeps { Keeps turn.old turn.new }
 {
     for done in 0..came.iterations {
-        match turn_once(stage, turn, steps) {
+        match turn_once(&stage, turn, steps) {
             TurnEnd::Goes => {}
             TurnEnd::Closes => {
                 return Ran {

@@ -22,7 +22,7 @@ use Rattle.dp_lean_turn.specs.Left.{all_kinds}
 use Rattle.dp_lean_judge.specs.declared.ready.Entry.{Entry}
 use Rattle.dp_lean_judge.specs.declared.ready.Entry.TheVariants as entry
 use Rattle.dp_lean_judge.specs.declared.ready.Seat.{Seat}
-use Rattle.dp_lean_judge.specs.Ready.{AllKept, KeptFor, kind_at, seat_of, seat_entry, store_entry, entry_of, lands}
+use Rattle.dp_lean_judge.specs.Ready.{AllKept, KeptFor, seat_kind, seat_of, seat_entry, store_entry, entry_of, lands}
 unfoldable use Rattle.dp_lean_judge.specs.Ready.{entries_of}
 use Rattle.dp_lean_judge.specs.Shown.{reader_at}
 use Rattle.dp_lean_region.specs.Region.{plan_kinds}
@@ -35,10 +35,11 @@ reader_kinds (r ∷ readers) (suc i) = reader_kinds readers i
 
 module _ (p : Program) (plan : Plan) (inlined : IsInlined p) (fits : fits_plan p plan ≡ true) (stages : HasStages p plan) (readers : List Left)
     (same : all_kinds readers ≡ plan_kinds p plan) where
-  at_seat : (site : SiteId) (k : ColumnKind) → kept_at p plan inlined fits stages site.0 ≡ Some k → kind_at readers (seat_of p plan site.0) ≡ Some k
+  at_seat : (site : SiteId) (k : ColumnKind) → kept_at p plan inlined fits stages site.0 ≡ Some k → seat_kind readers (seat_of p plan site.0) ≡ Some k
   at_seat site k kept =
       let seat = seat_of p plan site.0 in
-      ap (λ (own : List ColumnKind). slice_get own seat.column) (reader_kinds readers seat.reader ∙ ap (λ (all : List (List ColumnKind)). get_or all seat.reader []) same) ∙ kept
+      ap (λ (own : List ColumnKind). slice_get own seat.column) (reader_kinds readers seat.reader
+      ∙ ap (λ (all : List (List ColumnKind)). get_or all seat.reader []) same) ∙ kept
 
   -- of a site before the region nothing is read
   seated : (site : SiteId) (make : Seat → Entry) → KeptFor readers (make (seat_of p plan site.0)) → KeptFor readers (seat_entry p plan site make)
@@ -48,11 +49,11 @@ module _ (p : Program) (plan : Plan) (inlined : IsInlined p) (fits : fits_plan p
       by true = kept
       by false = tt
 
-  stored : (seat : Seat) (first : CellId) (count next : ℕ) → kind_at readers seat ≡ Some (if count == 1 then kind.Value first.0 else kind.Element) →
+  stored : (seat : Seat) (first : CellId) (count next : ℕ) → seat_kind readers seat ≡ Some (if count == 1 then kind.Value first.0 else kind.Element) →
       KeptFor readers (store_entry p plan first count next seat)
   stored seat first count next = by (count == 1)
     where
-      by : (one : Bool) → kind_at readers seat ≡ Some (if one then kind.Value first.0 else kind.Element) →
+      by : (one : Bool) → seat_kind readers seat ≡ Some (if one then kind.Value first.0 else kind.Element) →
           KeptFor readers (if one then entry.Scalar seat first next else entry.Element seat first count next)
       by true kept = kept
       by false kept = kept
@@ -75,4 +76,5 @@ module _ (p : Program) (plan : Plan) (inlined : IsInlined p) (fits : fits_plan p
 
   -- so it is of all entries of the judge's code
   pub all_read : AllKept readers (entries_of p plan (lean_code p plan (last plan) (paying_marks p plan)) 0 (lean_code p plan (last plan) (paying_marks p plan)))
-  all_read = entries_kept (lean_code p plan (last plan) (paying_marks p plan)) (lean_code p plan (last plan) (paying_marks p plan)) 0 (code_kept p plan inlined fits stages)
+  all_read = entries_kept (lean_code p plan (last plan) (paying_marks p plan)) (lean_code p plan (last plan) (paying_marks p plan)) 0
+      (code_kept p plan inlined fits stages)

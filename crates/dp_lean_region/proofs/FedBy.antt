@@ -1,5 +1,7 @@
 -- A stage feeds itself where one of the region's stores is its own, of a variable that it does stores to, and that outlives the iteration.
-use Rattle.dp_semantics.proofs.Names.{◌≡◌, refl, sym, ap, ◌∙◌, arith, or-false, list_any-append, le-ltb, ℕ, suc, ◌<◌, ◌≤◌, ◌&&◌, ◌||◌, ◌==◌, if◌then◌else◌, not, Bool, true, false, List, [], ◌∷◌, length, list_any, flat_map, Some, None, Stmt, Program, Plan, accesses, stage_of, is_replicated, is_body_local, region_statement, region_accesses, fits_plan}
+use Rattle.dp_semantics.proofs.Names.{◌≡◌, refl, sym, ap, ◌∙◌, arith, or-false, list_any-append, le-ltb, ℕ, suc, ◌<◌, ◌≤◌, ◌&&◌, ◌||◌, ◌==◌, if◌then◌else◌, not}
+use Rattle.dp_semantics.proofs.Names.{Bool, true, false, List, [], ◌∷◌, length, list_any, flat_map, Some, None, Stmt, Program, Plan, accesses, stage_of}
+use Rattle.dp_semantics.proofs.Names.{is_replicated, is_body_local, region_statement, region_accesses, fits_plan}
 use Rattle.dp_tree.specs.declared.Stmt.TheVariants as tree
 use Rattle.dp_tree.specs.Inlined.{IsInlined}
 use Rattle.dp_tree.specs.Statements.{asked}
@@ -30,7 +32,8 @@ module _ (p : Program) (plan : Plan) (s : ℕ) (known : ℕ → Bool) (knows : (
       none false = refl
 
   a_store : (site x : ℕ) (loads : List ℕ) →
-      (((stage_of p plan site == s) && (known x && not (is_body_local p plan x))) || false) ≡ list_any (feeds p plan s) (record { site = site; loads = loads; stores = Some x } ∷ [])
+      (((stage_of p plan site == s) && (known x && not (is_body_local p plan x))) || false) ≡ list_any (feeds p plan s)
+      (record { site = site; loads = loads; stores = Some x } ∷ [])
   a_store site x loads = ap (λ b. ((stage_of p plan site == s) && (b && not (is_body_local p plan x))) || false) (knows x)
 
   each : (x : Stmt) → list_any test (stored_at x) ≡ list_any (feeds p plan s) (access_at x)
@@ -63,7 +66,8 @@ module _ (p : Program) (plan : Plan) (inlined : IsInlined p) (fits : fits_plan p
       ∙ by (is_judge p plan s) (le-ltb (length plan.stages) s high) (is_replicated plan (suc s)) (neighbours p plan fits s par)
     where
       by : (judge : Bool) → judge ≡ false → (next : Bool) → next ≡ false →
-          ((if judge then list_any (Rattle.dp_lean.specs.Needed.compares p plan x) (region_accesses p plan) else (is_loaded_in p plan s x || (next && is_loaded_in p plan (suc s) x))) || (judge && not (is_body_local p plan x))) ≡ is_loaded_in p plan s x
+          ((if judge then list_any (Rattle.dp_lean.specs.Needed.compares p plan x) (region_accesses p plan)
+          else (is_loaded_in p plan s x || (next && is_loaded_in p plan (suc s) x))) || (judge && not (is_body_local p plan x))) ≡ is_loaded_in p plan s x
       by false e false f = or-false (is_loaded_in p plan s x || false) ∙ or-false (is_loaded_in p plan s x)
       by false e true f = absurd (cc f)
       by true e next f = absurd (cc e)
@@ -71,6 +75,7 @@ module _ (p : Program) (plan : Plan) (inlined : IsInlined p) (fits : fits_plan p
   pub keeps_is : (s : ℕ) → 0 < s → s ≤ length plan.stages → keeps_among p plan tables s (region_stores p plan.region) ≡ keeps_memory p plan s
   keeps_is s low high = by (is_replicated plan s) refl
     where
-      by : (par : Bool) → is_replicated plan s ≡ par → not (par && feeds_among p plan tables s (region_stores p plan.region)) ≡ (not par || not (feeds_itself p plan s))
+      by : (par : Bool) → is_replicated plan s ≡ par → not (par && feeds_among p plan tables s (region_stores p plan.region))
+          ≡ (not par || not (feeds_itself p plan s))
       by false e = refl
       by true e = ap not (all p plan s (λ x. (known_of p plan tables s).done x) (done_loaded s low high e) (region_statement p plan))

@@ -16,9 +16,9 @@ use Rattle.dp_lean_code.specs.Known.{paying_marks}
 use Rattle.dp_lean_code.specs.LeanCode.{lean_code}
 use Rattle.dp_lean_turn.specs.Standing.{AreHidden}
 use Rattle.dp_lean_kinds.specs.ColumnKinds.{region_kinds}
-use Rattle.dp_lean_region.specs.LeanEpoch.{LeanEpoch, marks_in}
+use Rattle.dp_lean_region.specs.LeanEpoch.{LeanEpoch, epoch_marks}
 use Rattle.dp_lean_judge.specs.declared.ready.Ready.{Ready}
-use Rattle.dp_lean_judge.specs.Ready.{AllKept, IsReady}
+use Rattle.dp_lean_judge.specs.Ready.{AllKept, JudgeIsReady}
 use Rattle.dp_lean_region.specs.Region.{LeanRegion, plan_kinds}
 use Rattle.dp_lean_region.specs.Ready.{IsStageReady}
 use Rattle.dp_lean_region.specs.Judging.{IsJudging}
@@ -85,10 +85,11 @@ module _ {p : Program} {plan : Plan} {first : ℕ} {kinds : List (List ColumnKin
       let count = ap length all_is ∙ ap length r.columns ∙ kinds_length p plan in
       omega (arith, inside, count, r.all.count)
 
-  pub judging_there : (v : LeanRegion) → record { program = p; plan = plan; cap = j.cap } ≡ v → (t : JudgeTables) → t.ready.now ≡ j.ready → t.locals.now ≡ locals →
+  pub judging_there : (v : LeanRegion) → record { program = p; plan = plan; cap = j.cap } ≡ v → (t : JudgeTables) → t.ready.now ≡ j.ready →
+      t.locals.now ≡ locals →
       IsJudging v.program v.plan t
   judging_there v view t ready_is locals_is = subst (λ (w : LeanRegion). IsJudging w.program w.plan t) view (record {
-    ready = subst (λ (ready : Ready). IsReady p plan (lean_code p plan (last plan) (paying_marks p plan)) ready) (sym ready_is) r.judge.ready;
+    ready = subst (λ (ready : Ready). JudgeIsReady p plan (lean_code p plan (last plan) (paying_marks p plan)) ready) (sym ready_is) r.judge.ready;
     kept = λ readers same. subst (λ (ready : Ready). AllKept readers ready.entries) (sym ready_is) (r.judge.kept readers same);
     locals = locals_is ∙ r.body;
   })
@@ -111,7 +112,7 @@ module _ {p : Program} {plan : Plan} {kinds : List (List ColumnKind)} {at : ℕ}
 
   pub stage_runs : kinds ≡ plan_kinds p plan → (e : LeanEpoch) → IsEpochOf e p plan input → RunsIn e at r
   stage_runs columns e of =
-      let marks : paying_marks p plan ≡ marks_in e =
+      let marks : paying_marks p plan ≡ epoch_marks e =
       (λ i. marks_of (of.program i) (of.plan i) (pays_off (of.program i) (of.plan i))) ∙ ap (marks_of e.key.program e.key.plan) (sym of.pays) in
       record {
         program = s.program ∙ of.program;

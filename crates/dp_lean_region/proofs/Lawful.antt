@@ -1,5 +1,6 @@
 -- The laws hold in each epoch of a region.
-use Rattle.dp_semantics.proofs.Names.{◌≡◌, refl, sym, ap, ◌∙◌, subst, arith, both_ways, ℕ, suc, ◌≤◌, Bool, true, false, List, Stmt, Program, Plan, is_replicated, fits_plan}
+use Rattle.dp_semantics.proofs.Names.{◌≡◌, refl, sym, ap, ◌∙◌, subst, arith, both_ways, ℕ, suc, ◌≤◌, Bool, true, false, List, Stmt, Program, Plan}
+use Rattle.dp_semantics.proofs.Names.{is_replicated, fits_plan}
 use Rattle.dp_tree.specs.Inlined.{IsInlined}
 use Rattle.dp_semantics.specs.EpochKey.{EpochKey}
 use Rattle.dp_semantics.proofs.StageKinds.{fitting_kinds}
@@ -24,7 +25,7 @@ use Rattle.dp_lean_epoch.proofs.Memories.{epoch_begins}
 use Rattle.dp_lean_epoch.proofs.Caps.{batches_kept}
 use Rattle.dp_lean_kinds.proofs.KeptEnough.{needed_behind}
 use Rattle.dp_lean_kinds.proofs.Sizes.{read_there}
-use Rattle.dp_lean_region.specs.LeanEpoch.{LeanEpoch, marks_in, kept_in, HasLaws, HasJudgeLaws, IsLeanEpoch}
+use Rattle.dp_lean_region.specs.LeanEpoch.{LeanEpoch, epoch_marks, kept_in, HasLaws, HasJudgeLaws, IsLeanEpoch}
 use Rattle.dp_lean_region.specs.Region.{lean_epoch}
 use Rattle.dp_lean_region.specs.Laws.{AreLawful}
 use Rattle.dp_lean_region.proofs.SiteKinds.{kept_there, placed, checked_there}
@@ -40,15 +41,15 @@ module _ (key : EpochKey) (cap : ℕ) (inlined : IsInlined key.program) (fits : 
   has_laws = record {
     steps = stage_steps key inlined fits pays (workers_go_on key inlined fits pays);
     workers = workers_begin key inlined fits pays;
-    voids = void_stays (marks_in e) key;
-    stand = λ s b. batch_stands (marks_in e) key cap s b;
-    ends = λ s k r. batch_ends (marks_in e) key s k r;
-    few = batches_kept (marks_in e) key;
-    fresh = fresh_batch (marks_in e) key (kept_in e) (accepted key.program key.plan fits);
-    extend = batches_extend (marks_in e) key (kept_in e);
-    come = batches_come (marks_in e) key (kept_in e);
-    one_by_one = λ s k j. come_one_by_one (marks_in e) key s k j;
-    fill = λ kept kinds. columns_fill (marks_in e) key kept kinds;
+    voids = void_stays (epoch_marks e) key;
+    stand = λ s b. batch_stands (epoch_marks e) key cap s b;
+    ends = λ s k r. batch_ends (epoch_marks e) key s k r;
+    few = batches_kept (epoch_marks e) key;
+    fresh = fresh_batch (epoch_marks e) key (kept_in e) (accepted key.program key.plan fits);
+    extend = batches_extend (epoch_marks e) key (kept_in e);
+    come = batches_come (epoch_marks e) key (kept_in e);
+    one_by_one = λ s k j. come_one_by_one (epoch_marks e) key s k j;
+    fill = λ kept kinds. columns_fill (epoch_marks e) key kept kinds;
     midway = λ kept kinds. midway_steps key inlined fits pays kept kinds;
   }
 
@@ -61,7 +62,7 @@ module _ (key : EpochKey) (cap : ℕ) (inlined : IsInlined key.program) (fits : 
   }
 
   -- what is read behind its own stage is kept
-  keeps_enough : KeepsEnough (marks_in e) key (kept_in e)
+  keeps_enough : KeepsEnough (epoch_marks e) key (kept_in e)
   keeps_enough = record {
     told = λ s y read later.
         kept_there key.program key.plan inlined fits y (read_there key.program key.plan (paying_marks key.program key.plan) s y read)
@@ -92,9 +93,11 @@ pub epochs_lawful : (p : Program) (plan : Plan) (most : ℕ) → IsInlined p →
 epochs_lawful p plan most inlined fits stages single key cap same_program same_plan low =
     let inlined' = subst IsInlined (sym same_program) inlined in
     let fits' : fits_plan key.program key.plan ≡ true = rw (same_program, same_plan) fits in
-    let stages' : HasStages key.program key.plan = subst (λ (q : Plan). HasStages key.program q) (sym same_plan) (subst (λ (q : Program). HasStages q plan) (sym same_program) stages) in
+    let stages' : HasStages key.program key.plan = subst (λ (q : Plan). HasStages key.program q) (sym same_plan)
+    (subst (λ (q : Program). HasStages q plan) (sym same_program) stages) in
     record {
-      lean = is_lean key cap inlined' fits' (λ s loses. let h = single s (ap (λ (q : Program). keeps_memory q plan s) (sym same_program) ∙ ap (λ (r : Plan). keeps_memory key.program r s) (sym same_plan) ∙ loses) in omega (arith, h, low));
+      lean = is_lean key cap inlined' fits' (λ s loses. let h = single s (ap (λ (q : Program). keeps_memory q plan s) (sym same_program)
+          ∙ ap (λ (r : Plan). keeps_memory key.program r s) (sym same_plan) ∙ loses) in omega (arith, h, low));
       judge = has_judge_laws key cap inlined' fits' stages';
       begins = epoch_begins (paying_marks key.program key.plan) key;
     }

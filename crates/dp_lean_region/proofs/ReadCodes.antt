@@ -1,5 +1,8 @@
 -- Each op of the judge's code reads what is kept of its site.
-use Rattle.dp_semantics.proofs.Names.{◌≡◌, ◌++◌, refl, sym, ap, ◌∙◌, subst, arith, append-nil, ne_eqb, eq-eqb, or_from, ℕ, zero, suc, ◌+◌, ◌-◌, ◌<◌, ◌≤◌, ◌||◌, ◌==◌, if◌then◌else◌, Bool, true, false, List, [], ◌∷◌, length, slice_get, get_or, Option, Some, None, cell_count, SiteId, Expr, Stmt, out-Stmt, Stmt-F, Assign, Store, Print, If, While, Region, Break, Call, Program, Plan, Access, accesses, site_of, stage_of, first_site, last, region_statement, region_accesses, project_all, fits_plan}
+use Rattle.dp_semantics.proofs.Names.{◌≡◌, ◌++◌, refl, sym, ap, ◌∙◌, subst, arith, append-nil, ne_eqb, eq-eqb, or_from, ℕ, zero, suc, ◌+◌, ◌-◌, ◌<◌, ◌≤◌, ◌||◌}
+use Rattle.dp_semantics.proofs.Names.{◌==◌, if◌then◌else◌, Bool, true, false, List, [], ◌∷◌, length, slice_get, get_or, Option, Some, None, cell_count, SiteId}
+use Rattle.dp_semantics.proofs.Names.{Expr, Stmt, out-Stmt, Stmt-F, Assign, Store, Print, If, While, Region, Break, Call, Program, Plan, Access, accesses}
+use Rattle.dp_semantics.proofs.Names.{site_of, stage_of, first_site, last, region_statement, region_accesses, project_all, fits_plan}
 use Rattle.dp_tree.specs.Inlined.{IsInlined}
 use Rattle.dp_plan.specs.Checked.{has_site}
 use Rattle.dp_semantics.proofs.Each.{Each, each_join, each_split}
@@ -80,13 +83,17 @@ module _ (p : Program) (plan : Plan) (inlined : IsInlined p) (fits : fits_plan p
   consumes : (site : SiteId) (own elsewhere : List LeanOp) → by_stage p plan s site own elsewhere ≡ elsewhere
   consumes site own elsewhere = ap (λ (b : Bool). if b then own else elsewhere) (other site.0)
 
-  branch_kept : (site : SiteId) (to : ℕ) (loads : List ℕ) → Reads (record { site = site.0; loads = loads; stores = None }) → m.block_at site.0 ≡ [] → OpKept (branch p plan s site to)
+  branch_kept : (site : SiteId) (to : ℕ) (loads : List ℕ) → Reads (record { site = site.0; loads = loads; stores = None }) → m.block_at site.0 ≡ [] →
+      OpKept (branch p plan s site to)
   branch_kept site to loads read alone =
-      subst (λ (b : Bool). OpKept (if b then Plain (op.Branch site to) else Plain (op.ConsumeBranch site to))) (sym (other site.0)) (plain_kind p plan inlined fits _ read alone)
+      subst (λ (b : Bool). OpKept (if b then Plain (op.Branch site to) else Plain (op.ConsumeBranch site to))) (sym (other site.0))
+      (plain_kind p plan inlined fits _ read alone)
 
-  exit_kept : (site : SiteId) (to : ℕ) (loads : List ℕ) → Reads (record { site = site.0; loads = loads; stores = None }) → m.block_at site.0 ≡ [] → OpKept (exit p plan s site to)
+  exit_kept : (site : SiteId) (to : ℕ) (loads : List ℕ) → Reads (record { site = site.0; loads = loads; stores = None }) → m.block_at site.0 ≡ [] →
+      OpKept (exit p plan s site to)
   exit_kept site to loads read alone =
-      subst (λ (b : Bool). OpKept (if b then Exit site to else Plain (op.ConsumeBranch site to))) (sym (other site.0)) (plain_kind p plan inlined fits _ read alone)
+      subst (λ (b : Bool). OpKept (if b then Exit site to else Plain (op.ConsumeBranch site to))) (sym (other site.0))
+      (plain_kind p plan inlined fits _ read alone)
 
   -- behind a condition's own code, of which there is none
   tested : (site : SiteId) (cond : Expr) (at : ℕ) (next : ℕ → List LeanOp) → ((k : ℕ) → AllKept (next k)) →
@@ -106,7 +113,8 @@ module _ (p : Program) (plan : Plan) (inlined : IsInlined p) (fits : fits_plan p
   leaf_kept (Break site cond) at is alone read = tested site cond at (leaving (exit p plan s site)) (λ k. (exit_kept site (k + 2) _ read.0 alone, (tt, tt)))
   leaf_kept _ at is alone read = absurd is
 
-  either_kept : (site : SiteId) (loads : List ℕ) (k : ℕ) (a b : List LeanOp) → Reads (record { site = site.0; loads = loads; stores = None }) → m.block_at site.0 ≡ [] →
+  either_kept : (site : SiteId) (loads : List ℕ) (k : ℕ) (a b : List LeanOp) → Reads (record { site = site.0; loads = loads; stores = None }) →
+      m.block_at site.0 ≡ [] →
       AllKept a → AllKept b → AllKept (either k (branch p plan s site) a b)
   either_kept site loads k a [] read alone f g = (branch_kept site _ loads read alone, f)
   either_kept site loads k a (o ∷ b) read alone f g = (branch_kept site _ loads read alone, each_join OpKept a (Plain (op.Jump _) ∷ (o ∷ b)) f (tt, g))
@@ -114,7 +122,8 @@ module _ (p : Program) (plan : Plan) (inlined : IsInlined p) (fits : fits_plan p
   -- a whole block
   met : (site : SiteId) (block : List Stmt) (at : ℕ) → kept_at site.0 ≡ Some kind.Block → AllKept (block_code p plan s site block at)
   met site block at kept =
-      subst (λ (b : Bool). AllKept (if b then Begin site ∷ (silent_code p plan s block (at + 1) ++ Finish ∷ []) else Meet site ∷ [])) (sym (other site.0)) (kept, tt)
+      subst (λ (b : Bool). AllKept (if b then Begin site ∷ (silent_code p plan s block (at + 1) ++ Finish ∷ []) else Meet site ∷ []))
+      (sym (other site.0)) (kept, tt)
 
   -- the head of a block is a site of the region
   quiet_read : (t : ℕ) (h : Stmt-F Stmt) → quiet_head p plan t h ≡ true → Each Reads (accesses_at h) → Reads (head_access h)
@@ -134,7 +143,8 @@ module _ (p : Program) (plan : Plan) (inlined : IsInlined p) (fits : fits_plan p
         let both = each_split Reads (accesses x) (accesses_all rest) read in
         let own = subst (λ (all : List Access). Each Reads all) (accesses_out x) both.0 in
         subst AllKept (sym (code_alone p plan s m (block_code p plan s) (some_block p plan s m) x rest at plain.0))
-        (each_join OpKept _ _ (subst AllKept (sym (code_out p plan s m (block_code p plan s) (some_block p plan s m) x at)) (leaf_kept (out-Stmt x) at is plain.0 own))
+        (each_join OpKept _ _ (subst AllKept (sym (code_out p plan s m (block_code p plan s) (some_block p plan s m) x at))
+        (leaf_kept (out-Stmt x) at is plain.0 own))
         (text_kept t _ both.1))
     text_kept (texts.choice {x = x} {rest = rest} {a = a} {b = b} {site = site} {cond = cond} plain is u v t) at read =
         let both = each_split Reads (accesses x) (accesses_all rest) read in
@@ -155,7 +165,8 @@ module _ (p : Program) (plan : Plan) (inlined : IsInlined p) (fits : fits_plan p
         subst AllKept (sym (code_alone p plan s m (block_code p plan s) (some_block p plan s m) x rest at plain.0))
         (each_join OpKept _ _
         (subst AllKept (sym (code_out p plan s m (block_code p plan s) (some_block p plan s m) x at ∙ ap (λ (h : Stmt-F Stmt). ops_at h at) is))
-        (tested site cond at (repetition at (branch p plan s site) (code_at a)) (λ k. (branch_kept site _ _ own.0 alone, each_join OpKept _ _ (text_kept u _ own.1) (tt, tt)))))
+        (tested site cond at (repetition at (branch p plan s site) (code_at a))
+        (λ k. (branch_kept site _ _ own.0 alone, each_join OpKept _ _ (text_kept u _ own.1) (tt, tt)))))
         (text_kept t _ both.1))
     text_kept (texts.block {x = x} {b = b} {rest = rest} {behind = behind} block is t) at read =
         let all = subst (λ (ys : List Stmt). Each Reads (accesses_all (x ∷ ys))) is read in

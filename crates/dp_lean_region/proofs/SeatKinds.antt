@@ -1,12 +1,14 @@
 -- What is kept of each access of a region: by what it stores, and whether a block begins there.
-use Rattle.dp_semantics.proofs.Names.{◌≡◌, ◌++◌, refl, sym, ap, ◌∙◌, subst, arith, map-append, ℕ, zero, suc, ◌+◌, ◌-◌, ◌&&◌, ◌==◌, if◌then◌else◌, Bool, true, not, List, [], ◌∷◌, map, slice_get, get_or, Option, Some, None, flat_map, Stmt, Program, Plan, Access, accesses, stage_of, first_site, region_statement, region_accesses, fits_plan, eq-eqb}
+use Rattle.dp_semantics.proofs.Names.{◌≡◌, ◌++◌, refl, sym, ap, ◌∙◌, subst, arith, map-append, ℕ, zero, suc, ◌+◌, ◌-◌, ◌&&◌, ◌==◌, if◌then◌else◌, Bool, true}
+use Rattle.dp_semantics.proofs.Names.{not, List, [], ◌∷◌, map, slice_get, get_or, Option, Some, None, flat_map, Stmt, Program, Plan, Access, accesses, stage_of}
+use Rattle.dp_semantics.proofs.Names.{first_site, region_statement, region_accesses, fits_plan, eq-eqb}
 use Rattle.std.proofs.lemmas.Option.{slice_get-map}
 use Rattle.dp_tree.specs.declared.Stmt.TheVariants as tree
 use Rattle.dp_tree.specs.Inlined.{IsInlined}
 use Rattle.dp_tree.specs.Statements.{asked}
 use Rattle.dp_tree.proofs.Asked.{asked_both}
 use Rattle.dp_plan.specs.Access.{access_at}
-use Rattle.dp_plan.specs.Written.{site_in}
+use Rattle.dp_plan.specs.Written.{access_site}
 use Rattle.dp_plan.proofs.Ascent.{Ascends}
 use Rattle.dp_semantics.proofs.Each.{Each, each_map}
 use Rattle.dp_semantics.proofs.Setting.{Sound}
@@ -67,7 +69,7 @@ members none = tt
 members (skips {a = a} {b = b} y r) = each_map (Member b) (Member (y ∷ b)) (member_behind y b) a (members r)
 members (takes {a = a} {b = b} y r) = ((0, refl), each_map (Member b) (Member (y ∷ b)) (member_behind y b) a (members r))
 
-at_number : (k : ℕ) (all : List Access) (i : ℕ) (a : Access) → Ascends k (map site_in all) → slice_get all i ≡ Some a → a.site ≡ k + i
+at_number : (k : ℕ) (all : List Access) (i : ℕ) (a : Access) → Ascends k (map access_site all) → slice_get all i ≡ Some a → a.site ≡ k + i
 at_number k [] i a up e = absurd (cc e)
 at_number k (b ∷ all) zero a up e = let same : b.site ≡ a.site = cc e in omega (arith, same, up.0)
 at_number k (b ∷ all) (suc i) a up e = let more = at_number (suc k) all i a up.1 e in omega (arith, more)
@@ -90,7 +92,8 @@ module _ (p : Program) (plan : Plan) (inlined : IsInlined p) (fits : fits_plan p
   abbrev pub kind_kept : ℕ → Option ℕ → ColumnKind
   kind_kept y stores = if begins m y then kind.Block else values_of p plan (form_by stores)
 
-  pub seat_kind : (a : Access) → IsRead a → slice_get (get_or (plan_kinds p plan) (stage_of p plan a.site - 1) []) (a.site - first_site p plan) ≡ Some (kind_kept a.site a.stores)
+  pub seat_kind : (a : Access) → IsRead a → slice_get (get_or (plan_kinds p plan) (stage_of p plan a.site - 1) []) (a.site - first_site p plan) ≡ Some
+      (kind_kept a.site a.stores)
   seat_kind a read =
       let i = read.0.0 in let t = stage_of p plan a.site in
       let sound = each_at (Sound p plan) (region_accesses p plan) i a (ok p plan inlined fits).sound read.0.1 in
@@ -102,7 +105,8 @@ module _ (p : Program) (plan : Plan) (inlined : IsInlined p) (fits : fits_plan p
       (λ j. slice_get (kinds j) (place j))
       ∙ slice_get-map (kind_of p plan m t) (formed_sites p plan) i
       ∙ ap (λ (sites : List FormedSite). Rattle.std.specs.Option.option_map (kind_of p plan m t) (slice_get sites i)) (all_formed (region_statement p plan))
-      ∙ ap (Rattle.std.specs.Option.option_map (kind_of p plan m t)) (slice_get-map formed_of (region_accesses p plan) i ∙ ap (Rattle.std.specs.Option.option_map formed_of) read.0.1)
+      ∙ ap (Rattle.std.specs.Option.option_map (kind_of p plan m t)) (slice_get-map formed_of (region_accesses p plan) i
+      ∙ ap (Rattle.std.specs.Option.option_map formed_of) read.0.1)
       ∙ ap Some (kept t (is_needed p plan m t a.site) (eq-eqb t t refl) read.1)
     where
       kept : (t : ℕ) (needed : Bool) → (stage_of p plan a.site == t) ≡ true → needed ≡ true →
@@ -112,9 +116,11 @@ module _ (p : Program) (plan : Plan) (inlined : IsInlined p) (fits : fits_plan p
   -- where no block begins
   pub plain_kind : (a : Access) → IsRead a → m.block_at a.site ≡ [] →
       slice_get (get_or (plan_kinds p plan) (stage_of p plan a.site - 1) []) (a.site - first_site p plan) ≡ Some (values_of p plan (form_by a.stores))
-  plain_kind a read alone = seat_kind a read ∙ ap (λ (block : List Stmt). Some (if not (Rattle.dp_net.specs.NetItems.is_nil block) then kind.Block else values_of p plan (form_by a.stores))) alone
+  plain_kind a read alone = seat_kind a read
+      ∙ ap (λ (block : List Stmt). Some (if not (Rattle.dp_net.specs.NetItems.is_nil block) then kind.Block else values_of p plan (form_by a.stores))) alone
 
   -- .. and where one does
   pub block_kind : (a : Access) (x : Stmt) (xs : List Stmt) → IsRead a → m.block_at a.site ≡ x ∷ xs →
       slice_get (get_or (plan_kinds p plan) (stage_of p plan a.site - 1) []) (a.site - first_site p plan) ≡ Some kind.Block
-  block_kind a x xs read block = seat_kind a read ∙ ap (λ (block : List Stmt). Some (if not (Rattle.dp_net.specs.NetItems.is_nil block) then kind.Block else values_of p plan (form_by a.stores))) block
+  block_kind a x xs read block = seat_kind a read
+      ∙ ap (λ (block : List Stmt). Some (if not (Rattle.dp_net.specs.NetItems.is_nil block) then kind.Block else values_of p plan (form_by a.stores))) block

@@ -1,5 +1,8 @@
 -- Each site of a region has its kind at its own place, and a needed one is kept.
-use Rattle.dp_semantics.proofs.Names.{◌≡◌, ◌⊎◌, ◌++◌, inl, inr, refl, sym, ap, ◌∙◌, subst, arith, length-map, map-append, eqb-true, eq-eqb, cases_lt, ℕ, zero, suc, ◌+◌, ◌-◌, ◌<◌, ◌≤◌, ◌&&◌, ◌||◌, ◌==◌, if◌then◌else◌, Bool, true, false, List, [], ◌∷◌, length, map, slice_get, Some, flat_map, Stmt, Program, Plan, Access, accesses, stage_of, first_site, is_checked, is_checked_access, last, region_statement, region_accesses, list_any, fits_plan}
+use Rattle.dp_semantics.proofs.Names.{◌≡◌, ◌⊎◌, ◌++◌, inl, inr, refl, sym, ap, ◌∙◌, subst, arith, length-map, map-append, eqb-true, eq-eqb, cases_lt, ℕ, zero}
+use Rattle.dp_semantics.proofs.Names.{suc, ◌+◌, ◌-◌, ◌<◌, ◌≤◌, ◌&&◌, ◌||◌, ◌==◌, if◌then◌else◌, Bool, true, false, List, [], ◌∷◌, length, map, slice_get, Some}
+use Rattle.dp_semantics.proofs.Names.{flat_map, Stmt, Program, Plan, Access, accesses, stage_of, first_site, is_checked, is_checked_access, last}
+use Rattle.dp_semantics.proofs.Names.{region_statement, region_accesses, list_any, fits_plan}
 use Rattle.std.proofs.lemmas.Option.{get_or_from_slice_get, slice_get-map}
 use Rattle.dp_tree.specs.declared.Stmt.TheVariants as tree
 use Rattle.dp_tree.specs.Inlined.{IsInlined}
@@ -7,7 +10,7 @@ use Rattle.dp_tree.specs.Statements.{asked}
 use Rattle.dp_tree.proofs.Asked.{asked_both}
 use Rattle.dp_plan.specs.Access.{access_at}
 use Rattle.dp_plan.specs.Checked.{has_site}
-use Rattle.dp_plan.specs.Written.{site_in}
+use Rattle.dp_plan.specs.Written.{access_site}
 use Rattle.dp_plan.proofs.Ascent.{Ascends}
 use Rattle.dp_semantics.proofs.Each.{Each}
 use Rattle.dp_semantics.proofs.Setting.{Sound}
@@ -19,7 +22,7 @@ use Rattle.dp_lean_code.proofs.Missing.{none_below, none_past}
 use Rattle.dp_lean_code.proofs.ProgramRight.{ok, ascends}
 use Rattle.dp_lean_code.proofs.TablesRight.{numbered_at}
 use Rattle.dp_lean_turn.specs.Notes.{kind_at, kinds_of}
-use Rattle.dp_lean_turn.specs.Told.{keeps}
+use Rattle.dp_lean_turn.specs.Told.{keeps_something}
 use Rattle.dp_lean_kinds.specs.declared.form.SiteForm.{SiteForm}
 use Rattle.dp_lean_kinds.specs.declared.form.SiteForm.TheVariants as form
 use Rattle.dp_lean_kinds.specs.declared.form.FormedSite.{FormedSite}
@@ -33,12 +36,12 @@ use Rattle.dp_lean_region.specs.Region.{plan_kinds}
 abbrev number_in : FormedSite → ℕ
 number_in a = a.site.0
 
-one_numbers : (x : Stmt) → map number_in (asked formed_at x) ≡ map site_in (accesses x)
+one_numbers : (x : Stmt) → map number_in (asked formed_at x) ≡ map access_site (accesses x)
 unfolding formed_at
-one_numbers x = asked_both (λ a c. map number_in a ≡ map site_in c) refl
-    (λ a b c d e f. map-append number_in a b ∙ (λ i. e i ++ f i) ∙ sym (map-append site_in c d)) formed_at access_at each x
+one_numbers x = asked_both (λ a c. map number_in a ≡ map access_site c) refl
+    (λ a b c d e f. map-append number_in a b ∙ (λ i. e i ++ f i) ∙ sym (map-append access_site c d)) formed_at access_at each x
   where
-    each : (x : Stmt) → map number_in (formed_at x) ≡ map site_in (access_at x)
+    each : (x : Stmt) → map number_in (formed_at x) ≡ map access_site (access_at x)
     each (tree.Assign site x e) = refl
     each (tree.Store site x i e) = refl
     each (tree.Print site e) = refl
@@ -48,12 +51,12 @@ one_numbers x = asked_both (λ a c. map number_in a ≡ map site_in c) refl
     each (tree.Break site e) = refl
     each (tree.Call f line args) = refl
 
-all_numbers : (xs : List Stmt) → map number_in (flat_map (asked formed_at) xs) ≡ map site_in (flat_map accesses xs)
+all_numbers : (xs : List Stmt) → map number_in (flat_map (asked formed_at) xs) ≡ map access_site (flat_map accesses xs)
 all_numbers [] = refl
 all_numbers (x ∷ xs) =
     map-append number_in (asked formed_at x) (flat_map (asked formed_at) xs)
     ∙ (λ i. one_numbers x i ++ all_numbers xs i)
-    ∙ sym (map-append site_in (accesses x) (flat_map accesses xs))
+    ∙ sym (map-append access_site (accesses x) (flat_map accesses xs))
 
 -- ---- the place of a site
 
@@ -80,23 +83,25 @@ module _ (p : Program) (plan : Plan) (inlined : IsInlined p) (fits : fits_plan p
   pub within : (y : ℕ) → has_site y (region_accesses p plan) ≡ true → (first_site p plan ≤ y) × (y < first_site p plan + length (region_accesses p plan))
   within y there = (from (cases_lt y (first_site p plan)), upto (cases_lt y (first_site p plan + length (region_accesses p plan))))
     where
-      up : Ascends (first_site p plan) (map site_in (region_accesses p plan))
+      up : Ascends (first_site p plan) (map access_site (region_accesses p plan))
       up = ascends p plan inlined fits
 
       from : (y < first_site p plan) ⊎ (first_site p plan ≤ y) → first_site p plan ≤ y
       from (inl low) = let clash = sym (none_below (first_site p plan) y (region_accesses p plan) up low) ∙ there in absurd (cc clash)
       from (inr low) = low
 
-      upto : (y < first_site p plan + length (region_accesses p plan)) ⊎ (first_site p plan + length (region_accesses p plan) ≤ y) → y < first_site p plan + length (region_accesses p plan)
+      upto : (y < first_site p plan + length (region_accesses p plan)) ⊎ (first_site p plan + length (region_accesses p plan) ≤ y) →
+          y < first_site p plan + length (region_accesses p plan)
       upto (inl high) = high
       upto (inr high) = let clash = sym (none_past (first_site p plan) y (region_accesses p plan) up high) ∙ there in absurd (cc clash)
 
   -- the site as it is formed, at its place
-  pub formed : (y : ℕ) → has_site y (region_accesses p plan) ≡ true → (a : FormedSite) × (slice_get (formed_sites p plan) (y - first_site p plan) ≡ Some a) × (a.site.0 ≡ y)
+  pub formed : (y : ℕ) → has_site y (region_accesses p plan) ≡ true → (a : FormedSite)
+      × (slice_get (formed_sites p plan) (y - first_site p plan) ≡ Some a) × (a.site.0 ≡ y)
   formed y there =
       let numbers = all_numbers (region_statement p plan) in
       let count : length (formed_sites p plan) ≡ length (region_accesses p plan) =
-      sym (length-map (formed_sites p plan) number_in) ∙ ap length numbers ∙ length-map (region_accesses p plan) site_in in
+      sym (length-map (formed_sites p plan) number_in) ∙ ap length numbers ∙ length-map (region_accesses p plan) access_site in
       let range = within y there in
       at_place (first_site p plan) y (formed_sites p plan)
       (subst (Ascends (first_site p plan)) (sym numbers) (ascends p plan inlined fits)) range.0 (omega (arith, range.1, count))
@@ -111,25 +116,26 @@ module _ (p : Program) (plan : Plan) (inlined : IsInlined p) (fits : fits_plan p
 
 -- ---- which are kept
 
-values_kept : (p : Program) (plan : Plan) (f : SiteForm) → keeps (values_of p plan f) ≡ true
+values_kept : (p : Program) (plan : Plan) (f : SiteForm) → keeps_something (values_of p plan f) ≡ true
 values_kept p plan (form.Stored x) = by (Rattle.dp_tree.specs.Eval.cell_count p x == 1)
   where
-    by : (b : Bool) → keeps (if b then kind.Value (Rattle.dp_tree.specs.Eval.first_cell p x) else kind.Element) ≡ true
+    by : (b : Bool) → keeps_something (if b then kind.Value (Rattle.dp_tree.specs.Eval.first_cell p x) else kind.Element) ≡ true
     by true = refl
     by false = refl
 values_kept p plan form.Single = refl
 
-either_kept : (b : Bool) (k : ColumnKind) → keeps k ≡ true → keeps (if b then kind.Block else k) ≡ true
+either_kept : (b : Bool) (k : ColumnKind) → keeps_something k ≡ true → keeps_something (if b then kind.Block else k) ≡ true
 either_kept true k e = refl
 either_kept false k e = e
 
-kept_where : (own needed b : Bool) (k : ColumnKind) → own ≡ true → needed ≡ true → keeps k ≡ true →
-    keeps (if own && needed then (if b then kind.Block else k) else kind.Nothing) ≡ true
+kept_where : (own needed b : Bool) (k : ColumnKind) → own ≡ true → needed ≡ true → keeps_something k ≡ true →
+    keeps_something (if own && needed then (if b then kind.Block else k) else kind.Nothing) ≡ true
 kept_where own needed b k e f g = rw (e, f) (either_kept b k g)
 
 module _ (p : Program) (plan : Plan) (m : Marks) where
   -- a needed site of the stage is kept
-  needed_kept : (t y : ℕ) (a : FormedSite) → a.site.0 ≡ y → stage_of p plan y ≡ t → is_needed p plan m t y ≡ true → keeps (kind_of p plan m t a) ≡ true
+  needed_kept : (t y : ℕ) (a : FormedSite) → a.site.0 ≡ y → stage_of p plan y ≡ t → is_needed p plan m t y ≡ true →
+      keeps_something (kind_of p plan m t a) ≡ true
   needed_kept t y a at own needed =
       kept_where (stage_of p plan a.site.0 == t) (is_needed p plan m t a.site.0) (begins m a.site.0) (values_of p plan a.form)
       (eq-eqb (stage_of p plan a.site.0) t (ap (stage_of p plan) at ∙ own)) (ap (is_needed p plan m t) at ∙ needed) (values_kept p plan a.form)
@@ -137,15 +143,18 @@ module _ (p : Program) (plan : Plan) (m : Marks) where
 -- ---- the kinds of all stages
 
 -- those of one stage among them
-pub kinds_of_stage : (p : Program) (plan : Plan) (t : ℕ) → 0 < t → t ≤ length plan.stages → kinds_of (plan_kinds p plan) t ≡ region_kinds p plan (paying_marks p plan) t
+pub kinds_of_stage : (p : Program) (plan : Plan) (t : ℕ) → 0 < t → t ≤ length plan.stages → kinds_of (plan_kinds p plan) t ≡ region_kinds p plan
+    (paying_marks p plan) t
 kinds_of_stage p plan zero some upto = absurd (omega (arith, some))
 kinds_of_stage p plan (suc t) some upto =
     let same : 1 + t ≡ suc t = omega arith in
     get_or_from_slice_get (plan_kinds p plan) t (region_kinds p plan (paying_marks p plan) (suc t)) []
-    (numbered_at (region_kinds p plan (paying_marks p plan)) 1 (length plan.stages) t (omega (arith, upto)) ∙ ap (λ (s : ℕ). Some (region_kinds p plan (paying_marks p plan) s)) same)
+    (numbered_at (region_kinds p plan (paying_marks p plan)) 1 (length plan.stages) t (omega (arith, upto))
+    ∙ ap (λ (s : ℕ). Some (region_kinds p plan (paying_marks p plan) s)) same)
 
 -- a site of the region is of one of the plan's stages
-site_sound : (p : Program) (plan : Plan) (y : ℕ) (all : List Access) → Each (Sound p plan) all → has_site y all ≡ true → (0 < stage_of p plan y) × (stage_of p plan y < last plan)
+site_sound : (p : Program) (plan : Plan) (y : ℕ) (all : List Access) → Each (Sound p plan) all → has_site y all ≡ true → (0 < stage_of p plan y)
+    × (stage_of p plan y < last plan)
 site_sound p plan y [] h e = absurd (cc e)
 site_sound p plan y (c ∷ all) h e = by (c.site == y) refl e (site_sound p plan y all h.1)
   where
@@ -157,16 +166,18 @@ site_sound p plan y (c ∷ all) h e = by (c.site == y) refl e (site_sound p plan
 module _ (p : Program) (plan : Plan) (inlined : IsInlined p) (fits : fits_plan p plan ≡ true) where
   -- what is needed behind its own stage is kept in that stage's columns
   pub kept_there : (y : ℕ) → has_site y (region_accesses p plan) ≡ true → is_needed p plan (paying_marks p plan) (stage_of p plan y) y ≡ true →
-      keeps (kind_at (kinds_of (plan_kinds p plan) (stage_of p plan y)) (y - first_site p plan)) ≡ true
+      keeps_something (kind_at (kinds_of (plan_kinds p plan) (stage_of p plan y)) (y - first_site p plan)) ≡ true
   kept_there y there needed =
       let range = site_sound p plan y (region_accesses p plan) (ok p plan inlined fits).sound there in
       let f = formed p plan inlined fits y there in
-      ap (λ (kinds : List ColumnKind). keeps (kind_at kinds (y - first_site p plan))) (kinds_of_stage p plan (stage_of p plan y) range.0 (omega (arith, range.1)))
-      ∙ ap keeps (kind_there p plan inlined fits (stage_of p plan y) y there)
+      ap (λ (kinds : List ColumnKind). keeps_something (kind_at kinds (y - first_site p plan))) (kinds_of_stage p plan (stage_of p plan y) range.0
+      (omega (arith, range.1)))
+      ∙ ap keeps_something (kind_there p plan inlined fits (stage_of p plan y) y there)
       ∙ needed_kept p plan (paying_marks p plan) (stage_of p plan y) y f.0 f.2 refl needed
 
   -- each site of the region has a place in each stage's columns
-  pub placed : (s y : ℕ) → suc s ≤ length plan.stages → has_site y (region_accesses p plan) ≡ true → y - first_site p plan < length (kinds_of (plan_kinds p plan) (suc s))
+  pub placed : (s y : ℕ) → suc s ≤ length plan.stages → has_site y (region_accesses p plan) ≡ true →
+      y - first_site p plan < length (kinds_of (plan_kinds p plan) (suc s))
   placed s y upto there =
       let count = ap length (kinds_of_stage p plan (suc s) (omega arith) upto) ∙ kinds_count p plan (paying_marks p plan) (suc s) in
       let range = within p plan inlined fits y there in omega (arith, count, range.0, range.1)
@@ -179,7 +190,8 @@ checked_there p plan y = over (region_accesses p plan)
     over [] e = absurd (cc e)
     over (a ∷ all) e = by (a.site == y) refl e (over all)
       where
-        by : (b : Bool) → (a.site == y) ≡ b → ((b && list_any (Rattle.dp_plan.specs.Checked.may_differ p plan (stage_of p plan y) y) a.loads) || list_any (is_checked_access p plan y) all) ≡ true →
+        by : (b : Bool) → (a.site == y) ≡ b → ((b && list_any (Rattle.dp_plan.specs.Checked.may_differ p plan (stage_of p plan y) y) a.loads) || list_any
+            (is_checked_access p plan y) all) ≡ true →
             (list_any (is_checked_access p plan y) all ≡ true → has_site y all ≡ true) → (b || has_site y all) ≡ true
         by true is e more = refl
         by false is e more = more e

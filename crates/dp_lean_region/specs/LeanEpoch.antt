@@ -9,9 +9,9 @@ use Rattle.dp_net.specs.Hidden.{marks_of}
 use Rattle.dp_net.specs.Batches.{batch_begin, batch_size}
 use Rattle.dp_columns.specs.declared.ColumnKind.{ColumnKind}
 use Rattle.dp_lean_turn.specs.Notes.{kind_at, kinds_of}
-use Rattle.dp_lean_turn.specs.Told.{keeps}
+use Rattle.dp_lean_turn.specs.Told.{keeps_something}
 use Rattle.dp_lean_judge.specs.Laws.{IsJudgeCode}
-use Rattle.dp_lean_epoch.specs.Holding.{Kept, place_of, KeepsEnough, HavePlaces}
+use Rattle.dp_lean_epoch.specs.Holding.{Kept, column_place, KeepsEnough, HavePlaces}
 use Rattle.dp_lean_epoch.specs.Steps.{keeps_memory, StageSteps, WorkersBegin, VoidStays}
 use Rattle.dp_lean_epoch.specs.JudgeSteps.{JudgeSteps, VoidsRecover}
 use Rattle.dp_lean_epoch.specs.Midway.{MidwaySteps, JudgeMidwaySteps}
@@ -25,8 +25,8 @@ pub record LeanEpoch : Type 0 where
   pub cap : ℕ
 
 module _ (e : LeanEpoch) where
-  abbrev pub marks_in : Marks
-  marks_in = marks_of e.key.program e.key.plan e.pays
+  abbrev pub epoch_marks : Marks
+  epoch_marks = marks_of e.key.program e.key.plan e.pays
 
   -- the place of batch b's first iteration, and how many iterations it may have
   abbrev pub begin_in : ℕ → ℕ
@@ -36,44 +36,44 @@ module _ (e : LeanEpoch) where
   size_in b = batch_size e.key e.cap b
 
   -- what columns of these kinds keep
-  abbrev pub kept_by : List ColumnKind → Kept
-  kept_by kinds = record { told = λ y. keeps (kind_at kinds (place_of e.key y)); loads = λ y. is_checked e.key.program e.key.plan y }
+  abbrev pub kept_by_kinds : List ColumnKind → Kept
+  kept_by_kinds kinds = record { told = λ y. keeps_something (kind_at kinds (column_place e.key y)); loads = λ y. is_checked e.key.program e.key.plan y }
 
   -- .. and those of the stages do, each of its own sites
   abbrev pub kept_in : Kept
   kept_in = record {
-    told = λ y. keeps (kind_at (kinds_of e.kinds (stage_of e.key.program e.key.plan y)) (place_of e.key y));
+    told = λ y. keeps_something (kind_at (kinds_of e.kinds (stage_of e.key.program e.key.plan y)) (column_place e.key y));
     loads = λ y. is_checked e.key.program e.key.plan y;
   }
 
   -- what is so of the stages' steps, and of what they send
   pub record HasLaws : Type 0 where
-    pub steps : StageSteps marks_in e.key
-    pub workers : WorkersBegin marks_in e.key
-    pub voids : VoidStays marks_in e.key
-    pub stand : (s b : ℕ) → BatchStands marks_in e.key e.cap s b
-    pub ends : (s k r : ℕ) → BatchEnds marks_in e.key s k r
-    pub few : BatchesAreKept marks_in e.key
-    pub fresh : FreshBatch marks_in e.key kept_in
-    pub extend : BatchesExtend marks_in e.key kept_in
-    pub come : BatchesCome marks_in e.key kept_in
-    pub one_by_one : (s k j : ℕ) → ComeOneByOne marks_in e.key s k j
-    pub fill : (kept : Kept) (kinds : List ColumnKind) → HavePlaces marks_in e.key kept kinds → ColumnsFill marks_in e.key kept kinds
-    pub midway : (kept : Kept) (kinds : List ColumnKind) → HavePlaces marks_in e.key kept kinds → MidwaySteps marks_in e.key kept kinds
+    pub steps : StageSteps epoch_marks e.key
+    pub workers : WorkersBegin epoch_marks e.key
+    pub voids : VoidStays epoch_marks e.key
+    pub stand : (s b : ℕ) → BatchStands epoch_marks e.key e.cap s b
+    pub ends : (s k r : ℕ) → BatchEnds epoch_marks e.key s k r
+    pub few : BatchesAreKept epoch_marks e.key
+    pub fresh : FreshBatch epoch_marks e.key kept_in
+    pub extend : BatchesExtend epoch_marks e.key kept_in
+    pub come : BatchesCome epoch_marks e.key kept_in
+    pub one_by_one : (s k j : ℕ) → ComeOneByOne epoch_marks e.key s k j
+    pub fill : (kept : Kept) (kinds : List ColumnKind) → HavePlaces epoch_marks e.key kept kinds → ColumnsFill epoch_marks e.key kept kinds
+    pub midway : (kept : Kept) (kinds : List ColumnKind) → HavePlaces epoch_marks e.key kept kinds → MidwaySteps epoch_marks e.key kept kinds
 
   -- .. and of the judge's, whose code says what the lean judging says
   pub record HasJudgeLaws : Type 0 where
-    pub steps : JudgeSteps marks_in e.key
-    pub voids : VoidsRecover marks_in e.key
-    pub midway : JudgeMidwaySteps marks_in e.key
-    pub code : IsJudgeCode e.key.program e.key.plan marks_in
+    pub steps : JudgeSteps epoch_marks e.key
+    pub voids : VoidsRecover epoch_marks e.key
+    pub midway : JudgeMidwaySteps epoch_marks e.key
+    pub code : IsJudgeCode e.key.program e.key.plan epoch_marks
 
   -- The columns keep what is read, and have a place for each checked site. Batches have one iteration where a stage's workers
   -- can't go on with the memory that they left. No replicated stage follows another one.
   pub record IsLeanEpoch : Type 0 where
     pub laws : HasLaws
-    pub enough : KeepsEnough marks_in e.key kept_in
+    pub enough : KeepsEnough epoch_marks e.key kept_in
     pub places : (s : ℕ) → suc s ≤ length e.key.plan.stages → (y : ℕ) → is_checked e.key.program e.key.plan y ≡ true →
-        place_of e.key y < length (kinds_of e.kinds (suc s))
+        column_place e.key y < length (kinds_of e.kinds (suc s))
     pub single : (s : ℕ) → keeps_memory e.key.program e.key.plan s ≡ false → e.cap ≤ 1
     pub apart : (s : ℕ) → is_replicated e.key.plan s ≡ true → is_replicated e.key.plan (suc s) ≡ false

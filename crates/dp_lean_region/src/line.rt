@@ -4,7 +4,7 @@ ghost use Rattle.dp_lean_region.specs.LeanEpoch.{LeanEpoch};
 ghost use Rattle.dp_lean_region.specs.Region.{IsCap};
 ghost use Rattle.dp_lean_region.specs.Ready.{IsStageReady};
 ghost use Rattle.dp_lean_region.specs.Judging.{IsJudging};
-ghost use Rattle.dp_lean_region.specs.Line.{IsLineOf, RunsIn, cap_of, line_kinds, plan_of, program_of};
+ghost use Rattle.dp_lean_region.specs.Line.{IsLineOf, RunsIn, cap_of, line_kinds, line_plan, line_program};
 ghost use Rattle.dp_lean_region.specs.Laws.{AreLawful};
 
 use crate::RegionTables;
@@ -42,14 +42,14 @@ pub struct Line<'p> {
 impl<'p> Line<'p> {
     /// The program.
     pub fn program(self) -> &'p Program
-        ensures { result.now ≡ program_of self.entry }
+        ensures { result.now ≡ line_program self.entry }
     {
         self.region.program()
     }
 
     /// The region's plan.
     pub fn plan(self) -> &'p Plan
-        ensures { result.now ≡ plan_of self.entry }
+        ensures { result.now ≡ line_plan self.entry }
     {
         self.region.plan()
     }
@@ -57,7 +57,7 @@ impl<'p> Line<'p> {
     /// How many iterations go together at most.
     pub fn cap(self) -> u64
         ensures value { result ≡ cap_of self.entry }
-        ensures cap { IsCap (program_of self.entry) (plan_of self.entry) result }
+        ensures cap { IsCap (line_program self.entry) (line_plan self.entry) result }
     {
         self.region.cap()
     }
@@ -66,7 +66,7 @@ impl<'p> Line<'p> {
     pub fn stage(self, place: usize) -> Option<ReadyStage<'p>>
         ensures ready { IfSome result (IsStageReady (line_kinds self.entry) place) }
         ensures runs { (e : LeanEpoch) → IsLineOf e self.entry → IfSome result (RunsIn e place) }
-        ensures absent { IfNone result (length (plan_of self.entry).stages ≤ place) }
+        ensures absent { IfNone result (length (line_plan self.entry).stages ≤ place) }
     {
         self.region.stage(place, self.input)
     }
@@ -80,14 +80,14 @@ impl<'p> Line<'p> {
 
     /// What iterations are judged by.
     pub fn judging(self) -> JudgeTables<'p>
-        ensures { IsJudging (program_of self.entry) (plan_of self.entry) result }
+        ensures { IsJudging (line_program self.entry) (line_plan self.entry) result }
     {
         self.region.judging()
     }
 
     /// The laws of the region's epochs.
     pub fn epochs_are_lawful(self)
-        ensures { AreLawful (program_of self.entry) (plan_of self.entry) (cap_of self.entry) }
+        ensures { AreLawful (line_program self.entry) (line_plan self.entry) (cap_of self.entry) }
     {
         self.region.epochs_are_lawful()
     }

@@ -1,5 +1,6 @@
 -- A checked site is one of the region, and so has a place where each of these has one.
-use Rattle.dp_semantics.proofs.Names.{◌≡◌, refl, sym, ap, ◌∙◌, arith, ℕ, ◌+◌, ◌-◌, ◌<◌, ◌≤◌, ◌==◌, ◌||◌, Bool, true, false, List, [], ◌∷◌, length, list_any, inl, inr, cases_lt, and_parts, Program, Plan, Access, first_site, region_accesses, fits_plan}
+use Rattle.dp_semantics.proofs.Names.{◌≡◌, refl, sym, ap, ◌∙◌, arith, ℕ, ◌+◌, ◌-◌, ◌<◌, ◌≤◌, ◌==◌, ◌||◌, Bool, true, false, List, [], ◌∷◌, length, list_any}
+use Rattle.dp_semantics.proofs.Names.{inl, inr, cases_lt, and_parts, Program, Plan, Access, first_site, region_accesses, fits_plan}
 use Rattle.dp_tree.specs.Inlined.{IsInlined}
 use Rattle.dp_plan.specs.Checked.{has_site, is_checked_access, may_differ}
 use Rattle.dp_plan.specs.Access.{stage_of}

@@ -1,5 +1,6 @@
 -- The values of a lean code are in order, and its own blocks are of the code's stage.
-use Rattle.std.proofs.Common.{◌≡◌, refl, sym, ap, ◌∙◌, ℕ, zero, suc, ◌+◌, ◌-◌, ◌==◌, if◌then◌else◌, Bool, true, false, nat_lt, List, [], ◌∷◌, ◌++◌, length, map, Some, slice_get, arith}
+use Rattle.std.proofs.Common.{◌≡◌, refl, sym, ap, ◌∙◌, ℕ, zero, suc, ◌+◌, ◌-◌, ◌==◌, if◌then◌else◌, Bool, true, false, nat_lt, List, [], ◌∷◌, ◌++◌, length, map}
+use Rattle.std.proofs.Common.{Some, slice_get, arith}
 use Rattle.std.specs.List.{list_all}
 use Rattle.std.proofs.lemmas.Bool.{and_from, and_parts, eqb-true}
 use Rattle.std.proofs.lemmas.List.{map-append}
@@ -22,7 +23,8 @@ use Rattle.dp_code.proofs.CodeOrder.{IsPlain}
 use Rattle.dp_lean.specs.LeanText.{lean_text}
 use Rattle.dp_lean_code.specs.declared.LeanOp.{LeanOp}
 use Rattle.dp_lean_code.specs.declared.LeanOp.TheVariants.{Plain, Exit, Begin, Finish, Meet}
-use Rattle.dp_lean_code.specs.LeanCode.{either, choice, repetition, leaving, value_code, test_code, branch, exit, code_of_head, list_code, no_blocks, silent_code, block_code, lean_code}
+use Rattle.dp_lean_code.specs.LeanCode.{either, choice, repetition, leaving, value_code, test_code, branch, exit, code_of_head, list_code, no_blocks}
+use Rattle.dp_lean_code.specs.LeanCode.{silent_code, block_code, lean_code}
 unfoldable use Rattle.dp_lean_code.specs.LeanCode.{stmt_code, row_code}
 use Rattle.dp_lean_turn.specs.Notes.{value_part}
 use Rattle.dp_lean_turn.proofs.ValueCode.{value_ordered}
@@ -52,7 +54,8 @@ module _ (p : Program) (plan : Plan) (s : ℕ) where
     pub order : in_order at (map value_part ops) ≡ true
     pub blocks : list_all begins_own ops ≡ true
 
-  order_join : (at : ℕ) (a b : List LeanOp) → in_order at (map value_part a) ≡ true → in_order (at + length a) (map value_part b) ≡ true → in_order at (map value_part (a ++ b)) ≡ true
+  order_join : (at : ℕ) (a b : List LeanOp) → in_order at (map value_part a) ≡ true → in_order (at + length a) (map value_part b) ≡ true →
+      in_order at (map value_part (a ++ b)) ≡ true
   unfolding in_order
   order_join at [] b h k = let here : at + 0 ≡ at = omega arith in sym (ap (λ (n : ℕ). in_order n (map value_part b)) here) ∙ k
   order_join at (o ∷ a) b h k =
@@ -60,7 +63,8 @@ module _ (p : Program) (plan : Plan) (s : ℕ) where
       let there : at + length (o ∷ a) ≡ at + 1 + length a = omega arith in
       let leads : leads_on (value_part o) at (map value_part (a ++ b)) ≡ true =
       ap (leads_on (value_part o) at) (map-append value_part a b) ∙ leads_more (value_part o) at (map value_part a) (map value_part b) both.0 in
-      and_from (leads_on (value_part o) at (map value_part (a ++ b))) _ leads (order_join (at + 1) a b both.1 (sym (ap (λ (n : ℕ). in_order n (map value_part b)) there) ∙ k))
+      and_from (leads_on (value_part o) at (map value_part (a ++ b))) _ leads
+      (order_join (at + 1) a b both.1 (sym (ap (λ (n : ℕ). in_order n (map value_part b)) there) ∙ k))
 
   join : (at : ℕ) (a b : List LeanOp) → Good at a → Good (at + length a) b → Good at (a ++ b)
   join at a b h k = record {
@@ -103,16 +107,20 @@ module _ (p : Program) (plan : Plan) (s : ℕ) where
 
   -- ---- statements
 
-  either_good : (at : ℕ) (fork : ℕ → LeanOp) (a b : List LeanOp) → ((to k : ℕ) → Good k (fork to ∷ [])) → Good (at + 1) a → Good (at + 1 + length a + 1) b → Good at (either at fork a b)
+  either_good : (at : ℕ) (fork : ℕ → LeanOp) (a b : List LeanOp) → ((to k : ℕ) → Good k (fork to ∷ [])) → Good (at + 1) a → Good (at + 1 + length a + 1) b →
+      Good at (either at fork a b)
   either_good at fork a [] plain h k = first at _ a (plain _ at) h
   either_good at fork a (o ∷ b) plain h k =
       first at _ _ (plain _ at) (join (at + 1) a _ h (first _ (Plain (op.Jump _)) (o ∷ b) (one _ _ (λ n rest. refl) refl) k))
 
-  choice_good : (fork : ℕ → LeanOp) (a b : ℕ → List LeanOp) (at : ℕ) → ((to k : ℕ) → Good k (fork to ∷ [])) → ((k : ℕ) → Good k (a k)) → ((k : ℕ) → Good k (b k)) → Good at (choice fork a b at)
+  choice_good : (fork : ℕ → LeanOp) (a b : ℕ → List LeanOp) (at : ℕ) → ((to k : ℕ) → Good k (fork to ∷ [])) → ((k : ℕ) → Good k (a k)) →
+      ((k : ℕ) → Good k (b k)) → Good at (choice fork a b at)
   choice_good fork a b at plain h k = either_good at fork (a (at + 1)) (b _) plain (h _) (k _)
 
-  repetition_good : (start : ℕ) (fork : ℕ → LeanOp) (body : ℕ → List LeanOp) (at : ℕ) → ((to k : ℕ) → Good k (fork to ∷ [])) → ((k : ℕ) → Good k (body k)) → Good at (repetition start fork body at)
-  repetition_good start fork body at plain h = first at _ _ (plain _ at) (ended (at + 1) (body (at + 1)) (Plain (op.Jump start)) (λ k. one k _ (λ n rest. refl) refl) (h _))
+  repetition_good : (start : ℕ) (fork : ℕ → LeanOp) (body : ℕ → List LeanOp) (at : ℕ) → ((to k : ℕ) → Good k (fork to ∷ [])) → ((k : ℕ) → Good k (body k)) →
+      Good at (repetition start fork body at)
+  repetition_good start fork body at plain h =
+      first at _ _ (plain _ at) (ended (at + 1) (body (at + 1)) (Plain (op.Jump start)) (λ k. one k _ (λ n rest. refl) refl) (h _))
 
   leaving_good : (fork : ℕ → LeanOp) (at : ℕ) → ((to k : ℕ) → Good k (fork to ∷ [])) → Good at (leaving fork at)
   leaving_good fork at plain = first at _ _ (plain _ at) (one _ (Plain op.End) (λ k rest. refl) refl)
@@ -132,15 +140,18 @@ module _ (p : Program) (plan : Plan) (s : ℕ) where
       by false = one k _ (λ n rest. refl) refl
 
   -- a condition's value, and then other code
-  tested_good : (site : SiteId) (cond : Expr) (at : ℕ) (next : ℕ → List LeanOp) → ((k : ℕ) → Good k (next k)) → Good at (test_code p plan s site cond at ++ next (at + length (test_code p plan s site cond at)))
+  tested_good : (site : SiteId) (cond : Expr) (at : ℕ) (next : ℕ → List LeanOp) → ((k : ℕ) → Good k (next k)) →
+      Good at (test_code p plan s site cond at ++ next (at + length (test_code p plan s site cond at)))
   tested_good site cond at next h =
       join at (test_code p plan s site cond at) _ (by_test (stage_of p plan site.0 == s) at (value_code p cond at) [] (value_good cond at) (none at)) (h _)
 
   -- at a site the stage's own ops, or the one by which it takes the next of the site's queue
-  own_or : (site : SiteId) (at : ℕ) (own : List LeanOp) (other : LeanOp) → Good at own → Good at (other ∷ []) → Good at (if stage_of p plan site.0 == s then own else other ∷ [])
+  own_or : (site : SiteId) (at : ℕ) (own : List LeanOp) (other : LeanOp) → Good at own → Good at (other ∷ []) →
+      Good at (if stage_of p plan site.0 == s then own else other ∷ [])
   own_or site at own other h k = by_test (stage_of p plan site.0 == s) at own (other ∷ []) h k
 
-  module _ (m : Marks) (inner : SiteId → List Stmt → ℕ → List LeanOp) (inner_good : (site : SiteId) (block : List Stmt) (at : ℕ) → Good at (inner site block at)) where
+  module _ (m : Marks) (inner : SiteId → List Stmt → ℕ → List LeanOp)
+      (inner_good : (site : SiteId) (block : List Stmt) (at : ℕ) → Good at (inner site block at)) where
     head_good : (block : List Stmt) (site : SiteId) (alone : ℕ → List LeanOp) (onward : ℕ → ℕ → List LeanOp) (at : ℕ) →
         ((k : ℕ) → Good k (alone k)) → ((n k : ℕ) → Good k (onward n k)) → Good at (code_of_head p plan s m inner block site alone onward at)
     head_good [] site alone onward at h k = join at (alone at) _ (h at) (k zero _)
@@ -152,11 +163,13 @@ module _ (p : Program) (plan : Plan) (s : ℕ) where
       stmt_good : (x : Stmt) (at : ℕ) → Good at (stmt_code p plan s m inner x at)
       stmt_good (stmt.Assign site x e) at = own_or site at _ _ (site_good e at _ (λ k. one k _ (λ n rest. refl) refl)) (one at _ (λ n rest. refl) refl)
       stmt_good (stmt.Store site x index e) at =
-          own_or site at _ _ (join at (value_code p index at) _ (value_good index at) (site_good e _ _ (λ k. one k _ (λ n rest. refl) refl))) (one at _ (λ n rest. refl) refl)
+          own_or site at _ _ (join at (value_code p index at) _ (value_good index at) (site_good e _ _ (λ k. one k _ (λ n rest. refl) refl)))
+          (one at _ (λ n rest. refl) refl)
       stmt_good (stmt.Print site e) at = own_or site at _ _ (site_good e at _ (λ k. one k _ (λ n rest. refl) refl)) (one at _ (λ n rest. refl) refl)
       stmt_good (stmt.If' site cond _ a _ b) at =
           tested_good site cond at _ (λ k. choice_good (branch p plan s site) _ _ k (branch_good site) (row_good zero a) (row_good zero b))
-      stmt_good (stmt.While' site cond _ a) at = tested_good site cond at _ (λ k. repetition_good at (branch p plan s site) _ k (branch_good site) (row_good zero a))
+      stmt_good (stmt.While' site cond _ a) at =
+          tested_good site cond at _ (λ k. repetition_good at (branch p plan s site) _ k (branch_good site) (row_good zero a))
       stmt_good (stmt.Break site cond) at = tested_good site cond at _ (λ k. leaving_good (exit p plan s site) k (exit_good site))
       stmt_good _ at = none at
 
@@ -178,14 +191,17 @@ module _ (p : Program) (plan : Plan) (s : ℕ) where
   block_good : (site : SiteId) (block : List Stmt) (at : ℕ) → Good at (block_code p plan s site block at)
   block_good site block at = by (stage_of p plan site.0 == s) refl
     where
-      by : (b : Bool) → (stage_of p plan site.0 == s) ≡ b → Good at (if b then Begin site ∷ (silent_code p plan s block (at + 1) ++ Finish ∷ []) else Meet site ∷ [])
-      by true own = first at (Begin site) _ (one at (Begin site) (λ n rest. refl) own) (ended (at + 1) _ Finish (λ k. one k Finish (λ n rest. refl) refl) (silent_good block (at + 1)))
+      by : (b : Bool) → (stage_of p plan site.0 == s) ≡ b → Good at (if b then Begin site ∷ (silent_code p plan s block (at + 1) ++ Finish ∷ [])
+          else Meet site ∷ [])
+      by true own = first at (Begin site) _ (one at (Begin site) (λ n rest. refl) own) (ended (at + 1) _ Finish (λ k. one k Finish (λ n rest. refl) refl)
+          (silent_good block (at + 1)))
       by false own = one at (Meet site) (λ n rest. refl) refl
 
   pub lean_good : (m : Marks) → Good 0 (lean_code p plan s m)
   lean_good m = ended 0 _ (Plain op.End) (λ k. one k _ (λ n rest. refl) refl) (list_good m (block_code p plan s) block_good zero (lean_text p plan m s) 0)
 
-  own_among : (code : List LeanOp) (at : ℕ) (site : SiteId) → list_all begins_own code ≡ true → slice_get code at ≡ Some (Begin site) → stage_of p plan site.0 ≡ s
+  own_among : (code : List LeanOp) (at : ℕ) (site : SiteId) → list_all begins_own code ≡ true → slice_get code at ≡ Some (Begin site) →
+      stage_of p plan site.0 ≡ s
   own_among [] at site all here = absurd (cc here)
   own_among (o ∷ code) zero site all here =
       eqb-true (stage_of p plan site.0) s (sym (ap begins_own (some_same here)) ∙ (and_parts (begins_own o) (list_all begins_own code) all).0)
@@ -195,7 +211,8 @@ module _ (p : Program) (plan : Plan) (s : ℕ) where
   own_among (o ∷ code) (suc at) site all here = own_among code at site (and_parts (begins_own o) (list_all begins_own code) all).1 here
 
   -- the own blocks of a stage's code are of the stage
-  pub blocks_own : (m : Marks) (code : List LeanOp) → code ≡ lean_code p plan s m → (at : ℕ) (site : SiteId) → slice_get code at ≡ Some (Begin site) → stage_of p plan site.0 ≡ s
+  pub blocks_own : (m : Marks) (code : List LeanOp) → code ≡ lean_code p plan s m → (at : ℕ) (site : SiteId) → slice_get code at ≡ Some (Begin site) →
+      stage_of p plan site.0 ≡ s
   blocks_own m code code_is at site here = own_among code at site (ap (list_all begins_own) code_is ∙ (lean_good m).blocks) here
 
   -- the value parts of a stage's code are in order

@@ -14,6 +14,8 @@ pub mod OwnBlocks
 pub mod Moving
 pub mod Following
 pub mod Deeds
+pub mod GoingOn
+pub mod Paced
 pub mod Evaluations
 pub mod ValueCode
 pub mod LeanOrder

@@ -1,5 +1,7 @@
 -- What an own site's event adds, outside of blocks and in one.
-use Rattle.dp_semantics.proofs.Names.{◌≡◌, refl, sym, ap, ◌∙◌, subst, arith, ℕ, ◌+◌, ◌-◌, Bool, true, false, ◌&&◌, if◌then◌else◌, List, ◌++◌, length, map, ℤ, Option, Some, None, nat_le, inl, inr, cases_Bool, Program, Plan, Load, Event, value_of, first_site, stage_of, is_checked, event_as_assumed, words_of}
+use Rattle.dp_semantics.proofs.Names.{◌≡◌, refl, sym, ap, ◌∙◌, subst, arith, ℕ, ◌+◌, ◌-◌, Bool, true, false, ◌&&◌, if◌then◌else◌, List, ◌++◌, length, map, ℤ}
+use Rattle.dp_semantics.proofs.Names.{Option, Some, None, nat_le, inl, inr, cases_Bool, Program, Plan, Load, Event, value_of, first_site, stage_of, is_checked}
+use Rattle.dp_semantics.proofs.Names.{event_as_assumed, words_of}
 use Rattle.std.proofs.lemmas.List.{length-map}
 use Rattle.dp_semantics.specs.Words.{cell_of}
 use Rattle.dp_net.specs.NetItems.{Marks, weights, said_all, told_after}
@@ -12,12 +14,13 @@ use Rattle.dp_lean_turn.specs.declared.Frame.{Frame}
 use Rattle.dp_lean_turn.specs.declared.Note.{Note}
 use Rattle.dp_lean_turn.specs.declared.Teller.{Teller}
 use Rattle.dp_lean_turn.specs.Notes.{kind_at}
-use Rattle.dp_lean_turn.specs.Told.{load_of, stored_by, event_put, put_own}
+use Rattle.dp_lean_turn.specs.Told.{entry_load, entry_store, event_put, put_own}
 use Rattle.dp_lean_turn.specs.Logged.{AreLogged, steps_of}
-use Rattle.dp_lean_turn.specs.Adding.{IsOwnEvent, IsPut, Adds}
+use Rattle.dp_lean_turn.specs.Adding.{IsOwnEvent, IsEventPut, Adds}
 use Rattle.dp_lean_turn.proofs.Added.{puts_then, puts_event, weights_more, words_count, steps_more}
 
-module _ (f : Frame) (m : Marks) (before : Columned) (old : Teller) (n : Note) (h : Held) (cell : ℕ) (value : ℤ) (event : Event) (is : IsOwnEvent f m before old n h cell value event) where
+module _ (f : Frame) (m : Marks) (before : Columned) (old : Teller) (n : Note) (h : Held) (cell : ℕ) (value : ℤ) (event : Event)
+    (is : IsOwnEvent f m before old n h cell value event) where
   abbrev p : Program
   p = f.program.now
 
@@ -34,28 +37,34 @@ module _ (f : Frame) (m : Marks) (before : Columned) (old : Teller) (n : Note) (
 
   -- what is put is what the event's items put
   put_is : old.loads.wanting ≡ false → (k : Columned) →
-      event_put n.checked n.kind n.place (map load_of old.loads.entries) cell value k ≡ put_own p plan f.kinds.own.now (said_all (words_of p plan event)) k
+      event_put n.checked n.kind n.place (map entry_load old.loads.entries) cell value k ≡ put_own p plan f.kinds.own.now (said_all (words_of p plan event)) k
   put_is there k = elim (cases_Bool n.checked) [
     | inl q ↦
-        ap (λ (b : Bool). event_put b n.kind n.place (map load_of old.loads.entries) cell value k) q ∙ ap (λ (ls : List Load). event_put true n.kind n.place ls cell value k) (is.noted there q)
+        ap (λ (b : Bool). event_put b n.kind n.place (map entry_load old.loads.entries) cell value k) q
+        ∙ ap (λ (ls : List Load). event_put true n.kind n.place ls cell value k) (is.noted there q)
         ∙ rest true ∙ sym (puts_event p plan f.kinds.own.now event k true (sym checked_is ∙ q))
     | inr q ↦
-        ap (λ (b : Bool). event_put b n.kind n.place (map load_of old.loads.entries) cell value k) q ∙ rest false ∙ sym (puts_event p plan f.kinds.own.now event k false (sym checked_is ∙ q))
+        ap (λ (b : Bool). event_put b n.kind n.place (map entry_load old.loads.entries) cell value k) q ∙ rest false
+        ∙ sym (puts_event p plan f.kinds.own.now event k false (sym checked_is ∙ q))
   ]
     where
       rest : (b : Bool) → event_put b n.kind n.place event.loads cell value k
-          ≡ event_put b (kind_at f.kinds.own.now (event.site - first_site p plan)) (event.site - first_site p plan) event.loads (cell_of event.effect) (value_of event.effect) k
+          ≡ event_put b (kind_at f.kinds.own.now (event.site - first_site p plan)) (event.site - first_site p plan) event.loads (cell_of event.effect)
+          (value_of event.effect) k
       rest b =
           ap (λ kind. event_put b kind n.place event.loads cell value k) is.own.kind
           ∙ ap (λ (at : ℕ). event_put b (kind_at f.kinds.own.now at) at event.loads cell value k) place_is
-          ∙ ap (λ (c : ℕ). event_put b (kind_at f.kinds.own.now (event.site - first_site p plan)) (event.site - first_site p plan) event.loads c value k) (sym is.cell)
-          ∙ ap (λ (z : ℤ). event_put b (kind_at f.kinds.own.now (event.site - first_site p plan)) (event.site - first_site p plan) event.loads (cell_of event.effect) z k) (sym is.value)
+          ∙ ap (λ (c : ℕ). event_put b (kind_at f.kinds.own.now (event.site - first_site p plan)) (event.site - first_site p plan) event.loads c
+          value k) (sym is.cell)
+          ∙ ap (λ (z : ℤ). event_put b (kind_at f.kinds.own.now (event.site - first_site p plan)) (event.site - first_site p plan) event.loads
+          (cell_of event.effect) z k) (sym is.value)
 
   module _ (words : ℕ) (words_is : words ≡ (if n.checked then length old.loads.entries else 0)) where
     words_are : old.loads.wanting ≡ false → words + 1 ≡ length (words_of p plan event)
     words_are there = ap (λ (k : ℕ). k + 1) words_is ∙ elim (cases_Bool n.checked) [
       | inl q ↦
-          ap (λ (b : Bool). (if b then length old.loads.entries else 0) + 1) q ∙ ap (λ (k : ℕ). k + 1) (sym (length-map old.loads.entries load_of) ∙ ap length (is.noted there q))
+          ap (λ (b : Bool). (if b then length old.loads.entries else 0) + 1) q ∙ ap (λ (k : ℕ). k + 1) (sym (length-map old.loads.entries entry_load)
+          ∙ ap length (is.noted there q))
           ∙ sym (words_count p plan f.kinds.own.now event true (sym checked_is ∙ q))
       | inr q ↦ ap (λ (b : Bool). (if b then length old.loads.entries else 0) + 1) q ∙ sym (words_count p plan f.kinds.own.now event false (sym checked_is ∙ q))
     ]
@@ -64,28 +73,33 @@ module _ (f : Frame) (m : Marks) (before : Columned) (old : Teller) (n : Note) (
       no_steps : steps_of h.block ≡ 0
       no_steps = ap steps_of none
 
-      fits_as : old.loads.wanting ≡ false → (b : Bool) → nat_le (old.used + (words + 1)) plan.words ≡ b → nat_le (weights h.own + length (words_of p plan event)) plan.words ≡ b
+      fits_as : old.loads.wanting ≡ false → (b : Bool) → nat_le (old.used + (words + 1)) plan.words ≡ b →
+          nat_le (weights h.own + length (words_of p plan event)) plan.words ≡ b
       fits_as there b e =
           let all : weights h.own + length (words_of p plan event) ≡ old.used + (words + 1) = omega (arith, is.tells.used, no_steps, words_are there) in
           ap (λ (k : ℕ). nat_le k plan.words) all ∙ e
 
-      pub tells_none : (there : old.loads.wanting ≡ false) → nat_le (old.used + (words + 1)) plan.words ≡ false → (w : Teller) → Adds f m before h event w answer.Broken
+      pub tells_none : (there : old.loads.wanting ≡ false) → nat_le (old.used + (words + 1)) plan.words ≡ false → (w : Teller) →
+          Adds f m before h event w answer.Broken
       tells_none there e w below next = ap (made_with p plan m h below next event) none ∙ by (event_as_assumed p plan event)
         where
-          by : (b : Bool) → (if b && nat_le (weights h.own + length (words_of p plan event)) plan.words then next_at p plan m next below (held_after p plan m h event.site event.effect (h.own ++ said_all (words_of p plan event)) None) else Ends BrokenOff) ≡ Ends BrokenOff
+          by : (b : Bool) → (if b && nat_le (weights h.own + length (words_of p plan event)) plan.words then next_at p plan m next below
+              (held_after p plan m h event.site event.effect (h.own ++ said_all (words_of p plan event)) None) else Ends BrokenOff) ≡ Ends BrokenOff
           by true = rw (fits_as there false e) refl
           by false = refl
 
       pub tells_other : event_as_assumed p plan event ≡ false → (w : Teller) → Adds f m before h event w answer.Broken
       tells_other e w below next = ap (made_with p plan m h below next event) none ∙ rw e refl
 
-      pub tells_event : (there : old.loads.wanting ≡ false) → event_as_assumed p plan event ≡ true → nat_le (old.used + (words + 1)) plan.words ≡ true → (mid new : Teller) → mid ≡ record old { used = old.used + (words + 1); steps = old.steps + 1 } →
-          IsPut n cell value mid new → Adds f m before h event new answer.Goes
+      pub tells_event : (there : old.loads.wanting ≡ false) → event_as_assumed p plan event ≡ true → nat_le (old.used + (words + 1)) plan.words ≡ true →
+          (mid new : Teller) → mid ≡ record old { used = old.used + (words + 1); steps = old.steps + 1 } →
+          IsEventPut n cell value mid new → Adds f m before h event new answer.Goes
       tells_event there assumed fits mid new counted put_in = (
         h.own ++ said_all (words_of p plan event),
         None,
         record {
-          columns = ap (λ (w : Teller). w.own) whole ∙ put_is there old.own ∙ ap (put_own p plan f.kinds.own.now (said_all (words_of p plan event))) is.tells.columns
+          columns = ap (λ (w : Teller). w.own) whole ∙ put_is there old.own
+              ∙ ap (put_own p plan f.kinds.own.now (said_all (words_of p plan event))) is.tells.columns
               ∙ sym (puts_then (first_site p plan) _ (is_checked p plan) h.own (said_all (words_of p plan event)) before);
           used = ap (λ (w : Teller). w.used) whole ∙ omega (arith, is.tells.used, no_steps, words_are there, weights_more h.own (words_of p plan event));
           steps = ap (λ (w : Teller). w.steps) whole ∙ omega (arith, is.tells.steps, no_steps, steps_more p plan f.kinds.own.now event h.own);
@@ -96,8 +110,13 @@ module _ (f : Frame) (m : Marks) (before : Columned) (old : Teller) (n : Note) (
         λ below next. ap (made_with p plan m h below next event) none ∙ rw (assumed, fits_as there true fits) refl,
       )
         where
-          whole : new ≡ record old { own = event_put n.checked n.kind n.place (map load_of old.loads.entries) cell value old.own; used = old.used + (words + 1); steps = old.steps + 1 }
-          whole = put_in ∙ ap (λ (w : Teller). record w { own = event_put n.checked n.kind n.place (map load_of w.loads.entries) cell value w.own }) counted
+          whole : new ≡ record old {
+            own = event_put n.checked n.kind n.place (map entry_load old.loads.entries) cell value old.own;
+            used = old.used + (words
+                + 1);
+            steps = old.steps + 1;
+          }
+          whole = put_in ∙ ap (λ (w : Teller). record w { own = event_put n.checked n.kind n.place (map entry_load w.loads.entries) cell value w.own }) counted
 
           not_running : old.log.running ≡ false
           not_running = by h.block none is.tells.log
@@ -124,8 +143,9 @@ module _ (f : Frame) (m : Marks) (before : Columned) (old : Teller) (n : Note) (
     block_none e w below next = ap (made_with p plan m h below next event) some ∙ rw (block_fits false e) refl
 
     -- one step more, with these net stores
-    pub block_event : nat_le (old.used + (0 + 1)) plan.words ≡ true → (mid new : Teller) → mid ≡ record old { used = old.used + (0 + 1); steps = old.steps + 1 } → new ≡ record mid { log = record mid.log { stores = new.log.stores } } →
-        map stored_by new.log.stores ≡ told_after (m.hides (stage_of p plan b.site)) b.told event.effect → Adds f m before h event new answer.Goes
+    pub block_event : nat_le (old.used + (0 + 1)) plan.words ≡ true → (mid new : Teller) → mid ≡ record old { used = old.used + (0 + 1); steps = old.steps + 1 }
+        → new ≡ record mid { log = record mid.log { stores = new.log.stores } } →
+        map entry_store new.log.stores ≡ told_after (m.hides (stage_of p plan b.site)) b.told event.effect → Adds f m before h event new answer.Goes
     block_event fits mid new counted stays stores = (
       h.own,
       Some (one_more p plan m b event.effect),

@@ -1,5 +1,7 @@
 -- An own block that is told.
-use Rattle.dp_semantics.proofs.Names.{◌≡◌, refl, sym, ap, ◌∙◌, subst, append_assoc, append-nil, arith, ℕ, zero, suc, ◌+◌, Bool, true, false, if◌then◌else◌, List, [], ◌∷◌, ◌++◌, map, Option, Some, None, slice_get, slice_set, sum_by, sum_by-cons, ℤ, Word, Effect, first_site, is_checked}
+use Rattle.dp_semantics.proofs.Names.{◌≡◌, refl, sym, ap, ◌∙◌, subst, append_assoc, append-nil, arith, ℕ, zero, suc, ◌+◌, Bool, true, false, if◌then◌else◌}
+use Rattle.dp_semantics.proofs.Names.{List, [], ◌∷◌, ◌++◌, map, Option, Some, None, slice_get, slice_set, sum_by, sum_by-cons, ℤ, Word, Effect, first_site}
+use Rattle.dp_semantics.proofs.Names.{is_checked}
 use Rattle.std.proofs.lemmas.List.Sums.{sum_by-append}
 use Rattle.std.proofs.lemmas.Option.{get_or_from_slice_get}
 use Rattle.dp_semantics.specs.Words.{is_load}
@@ -18,8 +20,8 @@ use Rattle.dp_lean_turn.specs.declared.Note.{Note}
 use Rattle.dp_lean_turn.specs.declared.Teller.{Teller}
 use Rattle.dp_lean_turn.specs.declared.Turn.{Turn}
 use Rattle.dp_lean_turn.specs.Notes.{kind_at}
-use Rattle.dp_lean_turn.specs.Told.{keeps, stored_by, with_stores, put_own}
-use Rattle.dp_lean_turn.specs.Standing.{IsSettled, Tells, Stands}
+use Rattle.dp_lean_turn.specs.Told.{keeps_something, entry_store, with_block_stores, put_own}
+use Rattle.dp_lean_turn.specs.Standing.{IsSettled, TellsOwn, Stands}
 use Rattle.dp_lean_turn.specs.Adding.{IsBlockPut}
 use Rattle.dp_lean_turn.specs.Doing.{Does}
 use Rattle.dp_lean_turn.proofs.Puts.{kind_found}
@@ -38,18 +40,26 @@ set_seen (z ∷ xs) zero x y e = refl
 set_seen (z ∷ xs) (suc i) x y e = set_seen xs i x y e
 
 -- they stand behind those that are there
-stores_put : (place : ℕ) (ss : List Effect) (k : Columned) (before : List Effect) → slice_get k.stores place ≡ Some before → with_stores place ss k ≡ record k { stores = slice_set k.stores place (before ++ ss) }
+stores_put : (place : ℕ) (ss : List Effect) (k : Columned) (before : List Effect) → slice_get k.stores place ≡ Some before →
+    with_block_stores place ss k ≡ record k { stores = slice_set k.stores place (before ++ ss) }
 stores_put place [] k before at = λ i. record k { stores = sym (ap (slice_set k.stores place) (append-nil before) ∙ set_again k.stores place before at) i }
 stores_put place (s ∷ ss) k before at =
-    let one : added_at place s k.stores ≡ slice_set k.stores place (before ++ s ∷ []) = ap (λ q. slice_set k.stores place (q ++ s ∷ [])) (get_or_from_slice_get k.stores place before [] at) in
-    ap (λ qs. with_stores place ss (record k { stores = qs })) one
-    ∙ stores_put place ss (record k { stores = slice_set k.stores place (before ++ s ∷ []) }) (before ++ s ∷ []) (set_seen k.stores place before (before ++ s ∷ []) at)
-    ∙ (λ i. record k { stores = (set_twice k.stores place (before ++ s ∷ []) ((before ++ s ∷ []) ++ ss) ∙ ap (slice_set k.stores place) (append_assoc before (s ∷ []) ss)) i })
+    let one : added_at place s k.stores ≡ slice_set k.stores place (before ++ s ∷ []) = ap (λ q. slice_set k.stores place (q ++ s ∷ []))
+    (get_or_from_slice_get k.stores place before [] at) in
+    ap (λ qs. with_block_stores place ss (record k { stores = qs })) one
+    ∙ stores_put place ss (record k { stores = slice_set k.stores place (before ++ s ∷ []) }) (before ++ s ∷ [])
+    (set_seen k.stores place before (before ++ s ∷ []) at)
+    ∙ (λ i. record k {
+      stores = (set_twice k.stores place (before ++ s ∷ []) ((before ++ s ∷ []) ++ ss)
+          ∙ ap (slice_set k.stores place) (append_assoc before (s ∷ []) ss)) i;
+    })
 
 -- a block is told whole where none waited for its end
-pub block_whole : (k : Columned) (kind : ColumnKind) (place : ℕ) (ss : List Effect) → IsSettled k → slice_get k.kinds place ≡ Some kind → block_ended place (with_stores place ss k) ≡ with_told place (DidBlock ss) k
+pub block_whole : (k : Columned) (kind : ColumnKind) (place : ℕ) (ss : List Effect) → IsSettled k → slice_get k.kinds place ≡ Some kind →
+    block_ended place (with_block_stores place ss k) ≡ with_told place (DidBlock ss) k
 block_whole k kind place ss settled there =
-    let none : slice_get k.stores place ≡ Some [] = ap (λ qs. slice_get qs place) settled ∙ at_map {A = ColumnKind} {B = List Effect} (λ _. []) k.kinds place kind there in
+    let none : slice_get k.stores place ≡ Some [] = ap (λ qs. slice_get qs place) settled
+    ∙ at_map {A = ColumnKind} {B = List Effect} (λ _. []) k.kinds place kind there in
     ap (block_ended place) (stores_put place ss k [] none)
     ∙ (λ i. record {
       kinds = k.kinds;
@@ -73,7 +83,8 @@ module _ (first : ℕ) (is_kept is_compared : ℕ → Bool) where
   then_stays : (a b c : Columned) → Stays a b → Stays b c → Stays a c
   then_stays a b c s t = record { kinds = t.kinds ∙ s.kinds; stores = t.stores ∙ s.stores }
 
-  word_stays : (b : Bool) (w : Word) (k : Columned) → Stays k (if b then put_load_word first is_kept is_compared w k else end_word first is_kept is_compared w (put_done_word first is_kept is_compared w k))
+  word_stays : (b : Bool) (w : Word) (k : Columned) → Stays k (if b then put_load_word first is_kept is_compared w k else end_word first is_kept is_compared w
+      (put_done_word first is_kept is_compared w k))
   word_stays true w k = when_stays (is_compared w.site.0) _ k (record { kinds = refl; stores = refl })
   word_stays false w k =
       then_stays k (put_done_word first is_kept is_compared w k) _ (when_stays (is_kept w.site.0) _ k (record { kinds = refl; stores = refl }))
@@ -86,7 +97,8 @@ module _ (first : ℕ) (is_kept is_compared : ℕ → Bool) where
 
 -- ---- the finish of a block
 
-module _ (f : Frame) (m : Marks) (before : Columned) (old : Teller) (own : List Item) (b : Silent) (tells : Tells f m before old own (Some b)) (kind : ColumnKind) (is_kind : kind ≡ kind_at old.own.kinds old.log.place) where
+module _ (f : Frame) (m : Marks) (before : Columned) (old : Teller) (own : List Item) (b : Silent) (tells : TellsOwn f m before old own (Some b))
+    (kind : ColumnKind) (is_kind : kind ≡ kind_at old.own.kinds old.log.place) where
   abbrev items : List Item
   items = Net b.site b.count b.told ∷ []
 
@@ -96,27 +108,32 @@ module _ (f : Frame) (m : Marks) (before : Columned) (old : Teller) (own : List 
       let all = subst (Stays before) (sym tells.columns) stays in
       all.stores ∙ tells.settled ∙ ap (λ (kinds : List ColumnKind). map {A = ColumnKind} {B = List Effect} (λ _. []) kinds) (sym all.kinds)
 
-  kept_is : (t : Bool) → keeps kind ≡ t → (if t then block_ended old.log.place (with_stores old.log.place (map stored_by old.log.stores) old.own) else old.own)
+  kept_is : (t : Bool) → keeps_something kind ≡ t →
+      (if t then block_ended old.log.place (with_block_stores old.log.place (map entry_store old.log.stores) old.own) else old.own)
       ≡ (if t then with_told old.log.place (DidBlock b.told) old.own else old.own)
   kept_is true e =
-      let some : Nothing ≡ kind → ⊥ = λ same. let clash : false ≡ true = ap keeps same ∙ e in cc clash in
-      block_whole old.own kind old.log.place (map stored_by old.log.stores) settled (kind_found kind some old.own.kinds old.log.place (sym is_kind))
+      let some : Nothing ≡ kind → ⊥ = λ same. let clash : false ≡ true = ap keeps_something same ∙ e in cc clash in
+      block_whole old.own kind old.log.place (map entry_store old.log.stores) settled (kind_found kind some old.own.kinds old.log.place (sym is_kind))
       ∙ ap (λ ss. with_told old.log.place (DidBlock ss) old.own) tells.log.1.stores
   kept_is false e = refl
 
   -- what is put is what the block's item puts
-  pub item_put : kind ≡ kind_at f.kinds.own.now old.log.place → (w : Teller) → IsBlockPut kind old w → w.own ≡ put_own f.program.now f.plan.now f.kinds.own.now (own ++ items) before
+  pub item_put : kind ≡ kind_at f.kinds.own.now old.log.place → (w : Teller) → IsBlockPut kind old w → w.own ≡ put_own f.program.now f.plan.now f.kinds.own.now
+      (own ++ items) before
   item_put own_kind w put =
-      ap (λ (x : Teller). x.own) put ∙ kept_is (keeps kind) refl
-      ∙ ap (λ k. if keeps k then with_told old.log.place (DidBlock b.told) old.own else old.own) own_kind
-      ∙ ap (λ (at : ℕ). if keeps (kind_at f.kinds.own.now at) then with_told at (DidBlock b.told) old.own else old.own) tells.log.1.place
+      ap (λ (x : Teller). x.own) put ∙ kept_is (keeps_something kind) refl
+      ∙ ap (λ k. if keeps_something k then with_told old.log.place (DidBlock b.told) old.own else old.own) own_kind
+      ∙ ap (λ (at : ℕ). if keeps_something (kind_at f.kinds.own.now at) then with_told at (DidBlock b.told) old.own else old.own) tells.log.1.place
       ∙ ap (put_own f.program.now f.plan.now f.kinds.own.now items) tells.columns
       ∙ sym (puts_then (first_site f.program.now f.plan.now) _ (is_checked f.program.now f.plan.now) own items before)
 
 -- the op that finishes it
-module _ {M : Type 0} (cells : M → List ℤ) (f : Frame) (m : Marks) (before : Columned) (t : Turn M) (c : Flat) (stands : Stands f m before cells t c) (n : Note) (runs : t.teller.log.running ≡ true)
-    (kind_is : n.kind ≡ kind_at t.teller.own.kinds t.teller.log.place) (own_kind : n.kind ≡ kind_at f.kinds.own.now t.teller.log.place) (w : Teller) (put : IsBlockPut n.kind t.teller w) (next : ℕ) (behind : next ≡ t.place + 1) where
-  by_block : (o : Option Silent) → Tells f m before t.teller c.held.own o → Does f m before cells (finished f.program.now f.plan.now m c o) (record t { teller = w; place = next }) answer.Goes
+module _ {M : Type 0} (cells : M → List ℤ) (f : Frame) (m : Marks) (before : Columned) (t : Turn M) (c : Flat) (stands : Stands f m before cells t c) (n : Note)
+    (runs : t.teller.log.running ≡ true)
+    (kind_is : n.kind ≡ kind_at t.teller.own.kinds t.teller.log.place) (own_kind : n.kind ≡ kind_at f.kinds.own.now t.teller.log.place) (w : Teller)
+    (put : IsBlockPut n.kind t.teller w) (next : ℕ) (behind : next ≡ t.place + 1) where
+  by_block : (o : Option Silent) → TellsOwn f m before t.teller c.held.own o → Does f m before cells (finished f.program.now f.plan.now m c o)
+      (record t { teller = w; place = next }) answer.Goes
   by_block None tells = let clash : false ≡ true = sym tells.log ∙ runs in absurd (cc clash)
   by_block (Some b) tells = (
     _,

@@ -7,7 +7,8 @@ use Rattle.dp_lean_turn.specs.Notes.{kinds_of}
 use Rattle.dp_lean_turn.specs.Left.{all_kinds}
 
 -- the kinds of a stage are its reader's
-pub kinds_are : (readers : List Left) (stage : ℕ) (reader : Left) → (stage ≡ 0 → ⊥) → slice_get readers (stage - 1) ≡ Some reader → kinds_of (all_kinds readers) stage ≡ reader.kinds
+pub kinds_are : (readers : List Left) (stage : ℕ) (reader : Left) → (stage ≡ 0 → ⊥) → slice_get readers (stage - 1) ≡ Some reader →
+    kinds_of (all_kinds readers) stage ≡ reader.kinds
 kinds_are readers zero reader some at = absurd (some refl)
 kinds_are readers (suc t) reader some at =
     let here : suc t - 1 ≡ t = omega arith in

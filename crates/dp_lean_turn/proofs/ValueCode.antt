@@ -23,7 +23,8 @@ Gives ops = list_all gives_value ops ≡ true
 gives_join : (a b : List Op) → Gives a → Gives b → Gives (a ++ b)
 gives_join a b h k = list_all-append gives_value a b ∙ and_from _ _ h k
 
-guarded_gives : (skip : ℕ → Op) (at : ℕ) (right : ℕ → List Op) → ((to : ℕ) → gives_value (skip to) ≡ true) → Gives (right (at + 1)) → Gives (guarded skip at right)
+guarded_gives : (skip : ℕ → Op) (at : ℕ) (right : ℕ → List Op) → ((to : ℕ) → gives_value (skip to) ≡ true) → Gives (right (at + 1)) →
+    Gives (guarded skip at right)
 guarded_gives skip at right is h = and_from _ _ (is _) (gives_join (right (at + 1)) (op.Truth ∷ []) h refl)
 
 -- the ops that give values are their own value parts
@@ -42,9 +43,11 @@ passes_front (suc n) (o ∷ a) h = let both = and_parts (gives_value o) (passes 
 
 leads_front : (o : Op) (at : ℕ) (a : List Op) → leads_on o at (a ++ op.End ∷ []) ≡ true → leads_on o at a ≡ true
 leads_front (op.SkipIfZero to) at a h =
-    let both = and_parts (nat_lt at to) (passes (to - (at + 1)) (a ++ op.End ∷ [])) h in and_from (nat_lt at to) _ both.0 (passes_front (to - (at + 1)) a both.1)
+    let both = and_parts (nat_lt at to) (passes (to - (at + 1)) (a ++ op.End ∷ [])) h in
+    and_from (nat_lt at to) _ both.0 (passes_front (to - (at + 1)) a both.1)
 leads_front (op.SkipIfNotZero to) at a h =
-    let both = and_parts (nat_lt at to) (passes (to - (at + 1)) (a ++ op.End ∷ [])) h in and_from (nat_lt at to) _ both.0 (passes_front (to - (at + 1)) a both.1)
+    let both = and_parts (nat_lt at to) (passes (to - (at + 1)) (a ++ op.End ∷ [])) h in
+    and_from (nat_lt at to) _ both.0 (passes_front (to - (at + 1)) a both.1)
 leads_front _ at a h = refl
 
 order_front : (at : ℕ) (a : List Op) → IsOrdered at (a ++ op.End ∷ []) → IsOrdered at a

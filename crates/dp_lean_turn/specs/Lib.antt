@@ -7,6 +7,7 @@ pub mod Logged
 pub mod Standing
 pub mod Adding
 pub mod Doing
+pub mod Quick
 pub mod Ending
 pub mod Made
 pub mod steps

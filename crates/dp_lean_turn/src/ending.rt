@@ -2,7 +2,7 @@
 ghost use Rattle.std.specs.Prelude.{◌≡◌, map, slice_get, true, [], OnOk};
 ghost use Rattle.dp_columns.specs.Columned.{block_ended, KeepsBlocks};
 ghost use Rattle.dp_lean_turn.specs.Notes.{kind_at};
-ghost use Rattle.dp_lean_turn.specs.Told.{stored_by, with_stores, Grown};
+ghost use Rattle.dp_lean_turn.specs.Told.{entry_store, with_block_stores, Grown};
 ghost use Rattle.dp_lean_turn.specs.Adding.{IsBlockPut};
 
 use crate::{Entry, Teller};
@@ -13,7 +13,7 @@ use dp_room::NoMemory;
 #[inline(never)]
 fn put_stores(own: &mut Columns, place: usize, entries: &[Entry]) -> Result<(), NoMemory>
     requires kind { KeepsBlocks (slice_get own.old.kinds place) }
-    ensures ok { OnOk result (own.new ≡ block_ended place (with_stores place (map stored_by entries.now) own.old)) }
+    ensures ok { OnOk result (own.new ≡ block_ended place (with_block_stores place (map entry_store entries.now) own.old)) }
     ensures grown { Grown own.old own.new }
 {
     for entry in entries {

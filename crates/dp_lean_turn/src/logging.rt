@@ -1,8 +1,8 @@
 //! The net stores of a block that is running.
 ghost use Rattle.std.specs.Prelude.{◌≡◌, ◌<◌, ◌++◌, ◌∷◌, [], map, length, List, OnOk, OnErr, MatchOption, ℕ};
 ghost use Rattle.dp_net.specs.NetItems.{put};
-ghost use Rattle.dp_lean_turn.specs.Told.{stored_by};
-ghost use Rattle.dp_lean_turn.specs.Logged.{AreOthers, IsFirstAt};
+ghost use Rattle.dp_lean_turn.specs.Told.{entry_store};
+ghost use Rattle.dp_lean_turn.specs.Logged.{AreOfOtherCells, IsFirstAt};
 
 use crate::Entry;
 use dp_room::{NoMemory, Row};
@@ -30,9 +30,10 @@ impl Model for NetLog {
     ghost invariant = { λ log. LeadBack log.entries log.places };
 }
 
-/// There is a place for the cell, and what was kept stays.
+/// There are places up to the cell's, and what was kept stays.
+#[cold]
 #[inline(never)]
-fn reach(places: &mut Row<u32>, cell: u32) -> Result<(), NoMemory>
+fn lengthen(places: &mut Row<u32>, cell: u32) -> Result<(), NoMemory>
     ensures more { (more : List ℕ) × (places.new ≡ places.old ++ more) }
     ensures within { OnOk result (cell < length places.new) }
 {
@@ -40,6 +41,18 @@ fn reach(places: &mut Row<u32>, cell: u32) -> Result<(), NoMemory>
         places.push(0)?;
     }
     Ok(())
+}
+
+/// There is a place for the cell, and what was kept stays.
+#[inline(always)]
+fn reach(places: &mut Row<u32>, cell: u32) -> Result<(), NoMemory>
+    ensures more { (more : List ℕ) × (places.new ≡ places.old ++ more) }
+    ensures within { OnOk result (cell < length places.new) }
+{
+    if (cell as usize) < places.len() {
+        return Ok(());
+    }
+    lengthen(places, cell)
 }
 
 impl NetLog {
@@ -72,7 +85,7 @@ impl NetLog {
     /// Where the store into a cell stands, if there is one.
     #[inline(always)]
     fn place_of(&self, cell: u32) -> Option<usize>
-        ensures { MatchOption result (AreOthers cell (length self.now) self.now) (λ place. IsFirstAt cell place self.now) }
+        ensures { MatchOption result (AreOfOtherCells cell (length self.now) self.now) (λ place. IsFirstAt cell place self.now) }
     {
         match self.places.get(cell as usize) {
             Some(at) => {
@@ -93,9 +106,9 @@ impl NetLog {
     }
 
     /// The first store into a cell.
-    #[inline(never)]
+    #[inline(always)]
     fn add(&mut self, cell: u32, value: i64) -> Result<(), NoMemory>
-        requires others { AreOthers cell (length self.old) self.old }
+        requires others { AreOfOtherCells cell (length self.old) self.old }
         ensures ok { OnOk result (self.new ≡ self.old ++ record { cell = cell; value = value } ∷ []) }
         ensures err { OnErr result (self.new ≡ self.old) }
     {
@@ -113,7 +126,7 @@ impl NetLog {
     /// A store more: it takes the place of an earlier one into its cell, or stands behind the others.
     #[inline(always)]
     pub(crate) fn put(&mut self, cell: u32, value: i64) -> Result<(), NoMemory>
-        ensures ok { OnOk result (map stored_by self.new ≡ put cell value (map stored_by self.old)) }
+        ensures ok { OnOk result (map entry_store self.new ≡ put cell value (map entry_store self.old)) }
         ensures err { OnErr result (self.new ≡ self.old) }
     {
         match self.place_of(cell) {

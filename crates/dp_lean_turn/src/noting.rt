@@ -1,6 +1,6 @@
 //! The loads of a site, while it is evaluated.
 ghost use Rattle.std.specs.Prelude.{◌≡◌, [], true};
-ghost use Rattle.dp_lean_turn.specs.Told.{tells};
+ghost use Rattle.dp_lean_turn.specs.Told.{notes_load};
 
 use crate::{Entry, Loads};
 use dp_engine::Watch;
@@ -22,7 +22,7 @@ impl Loads {
     /// One more.
     #[inline(always)]
     fn note(&mut self, cell: u32, value: i64)
-        ensures { tells self.old cell value self.new }
+        ensures { notes_load self.old cell value self.new }
     {
         match self.entries.push(Entry { cell, value }) {
             Ok(()) => {}
@@ -32,7 +32,7 @@ impl Loads {
 }
 
 impl Watch for Loads {
-    ghost told = { λ old cell value new. tells old cell value new };
+    ghost told = { λ old cell value new. notes_load old cell value new };
 
     #[inline(always)]
     fn load(&mut self, cell: u32, value: i64) {

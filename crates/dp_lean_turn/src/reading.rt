@@ -3,9 +3,25 @@ ghost use Rattle.std.specs.Prelude.{◌≡◌};
 ghost use Rattle.dp_lean_turn.specs.Notes.{kind_at, kinds_of};
 ghost use Rattle.dp_lean_turn.specs.Left.{TookNext, TookBlock, Took, TookStores, all_kinds};
 
-use crate::{Next, NextBlock, Note};
+use crate::Note;
 use dp_columns::{ColumnKind, Reader};
 use dp_room::Row;
+
+/// The next of an earlier stage's site.
+#[derive(Clone, Copy)]
+pub(crate) enum Next {
+    Did { cell: u32, value: i64 },
+    Nothing,
+    NoMemory,
+}
+
+/// .. of one where a block begins: the cells and the values of its stores.
+#[derive(Clone, Copy)]
+pub(crate) enum NextBlock<'c> {
+    Did { cells: &'c [u32], values: &'c [i64] },
+    Nothing,
+    NoMemory,
+}
 
 /// The next of a place whose site isn't told in blocks.
 #[inline(always)]

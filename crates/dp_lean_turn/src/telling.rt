@@ -1,18 +1,29 @@
 //! What a stage tells: the events of its own sites, and the net stores of its blocks.
-ghost use Rattle.std.specs.Prelude.{◌≡◌, ◌<◌, true, false, map, length, get_or, None, OnOk, if◌then◌else◌};
+ghost use Rattle.std.specs.Prelude.{◌≡◌, ◌<◌, true, false, map, length, get_or, slice_get, None, OnOk, OnErr, if◌then◌else◌};
+ghost use Rattle.dp_lean.specs.Queues.{Did};
 ghost use Rattle.dp_tree.specs.Step as effect;
 ghost use Rattle.dp_tree.specs.Step.{Event};
 ghost use Rattle.dp_semantics.specs.Clean.{as_assumed};
 ghost use Rattle.dp_net.specs.NetItems.{Marks, is_store};
-ghost use Rattle.dp_columns.specs.Columned.{Columned, loads_ended};
+ghost use Rattle.dp_columns.specs.Columned.{Columned, KeepsElements, with_told, loads_ended};
 ghost use Rattle.dp_lean_code.specs.LeanHeld.{Held};
 ghost use Rattle.dp_lean_turn.specs.Notes.{kind_at};
-ghost use Rattle.dp_lean_turn.specs.Told.{load_of, with_loads, done_put, Grown};
-ghost use Rattle.dp_lean_turn.specs.Adding.{Fits, IsPut, Counts, LogsStore, IsOwnEvent, Adds};
+ghost use Rattle.dp_lean_turn.specs.Told.{entry_load, with_loads, done_put, Grown};
+ghost use Rattle.dp_lean_turn.specs.Adding.{FitsNote, IsEventPut, CountsWords, LogsStore, IsOwnEvent, Adds};
 
 use crate::{Answer, Entry, Frame, Note, Teller};
 use dp_columns::{ColumnKind, Columns};
 use dp_room::NoMemory;
+
+/// A cell and a value are put. It is out of line, so that what is frequent stays short.
+#[inline(never)]
+fn put_element(own: &mut Columns, place: usize, cell: u32, value: i64) -> Result<(), NoMemory>
+    requires { KeepsElements (slice_get own.old.kinds place) }
+    ensures ok { OnOk result (own.new ≡ with_told place (Did cell value) own.old) }
+    ensures err { OnErr result (own.new ≡ own.old) }
+{
+    own.put_element(place, cell, value)
+}
 
 /// What an own site did is put into its column, by what that keeps.
 #[inline(always)]
@@ -36,7 +47,7 @@ fn put_done(
                 Err(NoMemory)
             }
         }
-        ColumnKind::Element => own.put_element(place, cell, value),
+        ColumnKind::Element => put_element(own, place, cell, value),
         ColumnKind::Block => Err(NoMemory),
     }
 }
@@ -45,7 +56,7 @@ fn put_done(
 #[inline(never)]
 fn put_loads(own: &mut Columns, place: usize, entries: &[Entry]) -> Result<(), NoMemory>
     requires within { place < length own.old.kinds }
-    ensures ok { OnOk result (own.new ≡ loads_ended place (with_loads place (map load_of entries.now) own.old)) }
+    ensures ok { OnOk result (own.new ≡ loads_ended place (with_loads place (map entry_load entries.now) own.old)) }
     ensures grown { Grown own.old own.new }
 {
     for entry in entries {
@@ -81,8 +92,8 @@ impl Teller {
     /// The event of an own site is put into its columns.
     #[inline(always)]
     fn put(&mut self, note: &Note, cell: u32, value: i64) -> Result<(), NoMemory>
-        requires fits { Fits self.old note.now }
-        ensures ok { OnOk result (IsPut note.now cell value self.old self.new) }
+        requires fits { FitsNote self.old note.now }
+        ensures ok { OnOk result (IsEventPut note.now cell value self.old self.new) }
         ensures grown { Grown self.old.own self.new.own }
     {
         put_done(&mut self.own, note.kind, note.place as usize, cell, value)?;
@@ -99,7 +110,7 @@ impl Teller {
     /// So many words more, and a step.
     #[inline(always)]
     fn count(&mut self, limit: u32, words: usize) -> Answer
-        ensures counts { Counts limit words self.old self.new result }
+        ensures counts { CountsWords limit words self.old self.new result }
         ensures own { self.new.own ≡ self.old.own }
     {
         let free = limit.saturating_sub(self.used) as usize;
@@ -117,11 +128,12 @@ impl Teller {
     }
 
     /// The event of an own site outside of blocks.
-    #[inline(never)]
+    #[inline(always)]
     fn tell<'f>(&mut self, frame: &Frame<'f>, note: &Note, cell: u32, value: i64) -> Answer
-        requires fits { Fits self.old note.now }
+        requires fits { FitsNote self.old note.now }
         ensures adds { (m : Marks) (before : Columned) (h : Held) (event : Event) → IsOwnEvent frame.now m before self.old note.now h cell value event →
-            h.block ≡ None → as_assumed frame.now.program.now frame.now.plan.now event.site event.effect ≡ true → Adds frame.now m before h event self.new result }
+            h.block ≡ None → as_assumed frame.now.program.now frame.now.plan.now event.site event.effect ≡ true →
+            Adds frame.now m before h event self.new result }
         ensures grown { Grown self.old.own self.new.own }
     {
         if self.loads.wanting {
@@ -138,7 +150,7 @@ impl Teller {
 
     /// A store of the block that is running.
     #[inline(always)]
-    fn log_store<'f>(&mut self, frame: &Frame<'f>, cell: u32, value: i64) -> Answer
+    pub(crate) fn log_store<'f>(&mut self, frame: &Frame<'f>, cell: u32, value: i64) -> Answer
         ensures { LogsStore frame.now cell value self.old self.new result }
     {
         if is_hidden(frame.hidden, cell) {
@@ -159,7 +171,7 @@ impl Teller {
         cell: u32,
         value: i64,
     ) -> Answer
-        requires fits { Fits self.old note.now }
+        requires fits { FitsNote self.old note.now }
         ensures adds { (m : Marks) (before : Columned) (h : Held) (event : Event) → IsOwnEvent frame.now m before self.old note.now h cell value event →
             event.effect ≡ effect.Stored cell value → Adds frame.now m before h event self.new result }
         ensures grown { Grown self.old.own self.new.own }
@@ -182,9 +194,10 @@ impl Teller {
         assumed: bool,
         value: i64,
     ) -> Answer
-        requires fits { Fits self.old note.now }
+        requires fits { FitsNote self.old note.now }
         ensures adds { (m : Marks) (before : Columned) (h : Held) (event : Event) → IsOwnEvent frame.now m before self.old note.now h 0 value event →
-            is_store event.effect ≡ false → assumed ≡ as_assumed frame.now.program.now frame.now.plan.now event.site event.effect → Adds frame.now m before h event self.new result }
+            is_store event.effect ≡ false → assumed ≡ as_assumed frame.now.program.now frame.now.plan.now event.site event.effect →
+            Adds frame.now m before h event self.new result }
         ensures grown { Grown self.old.own self.new.own }
     {
         if self.log.running {

@@ -16,7 +16,8 @@ IsWithin [] (o ∷ os) = ⊥
 IsWithin (g ∷ gs) [] = ⊥
 IsWithin (g ∷ gs) (o ∷ os) = (g.units ≡ o.units) × (g.replicated ≡ true → o.replicated ≡ true) × IsWithin gs os
 
-pub places_first : (begin : ℕ) (g o : List Stretch) → NoLater g o → IsListBefore (λ x y. x < y) (places_from begin g) (places_from begin o) ⊎ ((places_from begin g ≡ places_from begin o) × IsWithin g o)
+pub places_first : (begin : ℕ) (g o : List Stretch) → NoLater g o → IsListBefore (λ x y. x < y) (places_from begin g) (places_from begin o)
+    ⊎ ((places_from begin g ≡ places_from begin o) × IsWithin g o)
 places_first begin [] [] n = inr (refl, n)
 places_first begin [] (o ∷ os) n = absurd n
 places_first begin (g ∷ gs) [] n = absurd n
@@ -88,7 +89,8 @@ module _ (weights : List ℕ) (carried : List (ℕ × ℕ)) (most workers bound 
   is_least = record { allowed = allowed; first = is_first }
 
 -- the best cut that keeps a bound, of which no lower one can be kept
-pub least_of_best : (weights : List ℕ) (carried : List (ℕ × ℕ)) (most workers bound : ℕ) (cut : List Stretch) → Best weights carried workers bound most true 0 cut →
+pub least_of_best : (weights : List ℕ) (carried : List (ℕ × ℕ)) (most workers bound : ℕ) (cut : List Stretch) →
+    Best weights carried workers bound most true 0 cut →
     ((lower : ℕ) → lower < bound → ¬ Fits weights carried workers lower most true 0) → IsLeastCut weights carried most workers cut
 least_of_best weights carried most workers bound cut best low = is_least weights carried most workers bound cut (best.stages, best.few) best.cheap
     (λ other may. elim (cases_lt (bottleneck weights workers 0 other) bound) [

@@ -14,7 +14,8 @@ weight_more ws i j h k =
     let next : (j + 1) - i ≡ n + 1 = omega (arith, h) in
     let long : n < length xs = omega (arith, length-drop i ws, h, k) in
     let there : i + n ≡ j = omega (arith, h) in
-    ap (λ m. sum (take m xs)) next ∙ ap sum (take_more xs n 0 long) ∙ sum_by-append (λ (x : ℕ). x) (take n xs) (get_or xs n 0 ∷ []) ∙ ap (λ x. sum (take n xs) + x) (zero-add (get_or xs n 0)) ∙ ap (λ x. sum (take n xs) + x) (get_or-drop i ws n 0 ∙ ap (λ m. get_or ws m 0) there)
+    ap (λ m. sum (take m xs)) next ∙ ap sum (take_more xs n 0 long) ∙ sum_by-append (λ (x : ℕ). x) (take n xs) (get_or xs n 0 ∷ [])
+    ∙ ap (λ x. sum (take n xs) + x) (zero-add (get_or xs n 0)) ∙ ap (λ x. sum (take n xs) + x) (get_or-drop i ws n 0 ∙ ap (λ m. get_or ws m 0) there)
 
 pub weight_low : (ws : List ℕ) (i j : ℕ) → weight_between ws i j ≤ sum ws
 weight_low ws i j =

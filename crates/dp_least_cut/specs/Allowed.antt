@@ -16,7 +16,8 @@ IsClear carried begin end = All (λ edge. ¬ (IsBetween begin end edge.0 × IsBe
 abbrev pub AreStages : List (ℕ × ℕ) → ℕ → Bool → ℕ → List Stretch → Type 0
 AreStages carried count closed begin [] = begin ≡ count
 AreStages carried count closed begin (s ∷ rest) =
-    (0 < s.units) × (s.replicated ≡ true → (closed ≡ false) × IsClear carried begin (begin + s.units)) × AreStages carried count s.replicated (begin + s.units) rest
+    (0 < s.units) × (s.replicated ≡ true → (closed ≡ false) × IsClear carried begin (begin + s.units))
+    × AreStages carried count s.replicated (begin + s.units) rest
 
 -- a cut of all units into at most so many stages
 abbrev pub IsAllowed : List ℕ → List (ℕ × ℕ) → ℕ → List Stretch → Type 0

@@ -30,6 +30,9 @@ replicated_count (s ∷ rest) = (if s.replicated then 1 else 0) + replicated_cou
 -- The first cut comes before the second: by the bottleneck, then by the list of cut places, then by the number of replicated stages, then by the list of kinds.
 pub data IsBefore (weights : List ℕ) (workers : ℕ) (a b : List Stretch) : Type 0 where
   by_bottleneck : bottleneck weights workers 0 a < bottleneck weights workers 0 b → IsBefore weights workers a b
-  by_places : bottleneck weights workers 0 a ≡ bottleneck weights workers 0 b → IsListBefore (λ x y. x < y) (places_from 0 a) (places_from 0 b) → IsBefore weights workers a b
-  by_count : bottleneck weights workers 0 a ≡ bottleneck weights workers 0 b → places_from 0 a ≡ places_from 0 b → replicated_count a < replicated_count b → IsBefore weights workers a b
-  by_kinds : bottleneck weights workers 0 a ≡ bottleneck weights workers 0 b → places_from 0 a ≡ places_from 0 b → replicated_count a ≡ replicated_count b → IsListBefore IsKindBefore (kinds a) (kinds b) → IsBefore weights workers a b
+  by_places : bottleneck weights workers 0 a ≡ bottleneck weights workers 0 b → IsListBefore (λ x y. x < y) (places_from 0 a) (places_from 0 b) →
+      IsBefore weights workers a b
+  by_count : bottleneck weights workers 0 a ≡ bottleneck weights workers 0 b → places_from 0 a ≡ places_from 0 b → replicated_count a < replicated_count b →
+      IsBefore weights workers a b
+  by_kinds : bottleneck weights workers 0 a ≡ bottleneck weights workers 0 b → places_from 0 a ≡ places_from 0 b → replicated_count a ≡ replicated_count b →
+      IsListBefore IsKindBefore (kinds a) (kinds b) → IsBefore weights workers a b

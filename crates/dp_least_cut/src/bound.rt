@@ -12,8 +12,10 @@ pub fn least_bound(alloc: Global, costs: Costs<'_>, stages: u32) -> Result<u64, 
     requires costs { AreCosts costs.weights.now costs.limits.now costs.workers }
     requires some { 0 < stages }
     requires few { stages < 9 }
-    ensures keeps { IfOk result (λ bound. (carried : List (ℕ × ℕ)) → AreLimits carried costs.entry.limits.now → Fits costs.entry.weights.now carried costs.entry.workers bound stages true 0) }
-    ensures least { IfOk result (λ bound. (carried : List (ℕ × ℕ)) → AreLimits carried costs.entry.limits.now → (lower : ℕ) → lower < bound → ¬ Fits costs.entry.weights.now carried costs.entry.workers lower stages true 0) }
+    ensures keeps { IfOk result (λ bound. (carried : List (ℕ × ℕ)) → AreLimits carried costs.entry.limits.now →
+        Fits costs.entry.weights.now carried costs.entry.workers bound stages true 0) }
+    ensures least { IfOk result (λ bound. (carried : List (ℕ × ℕ)) → AreLimits carried costs.entry.limits.now → (lower : ℕ) → lower < bound →
+        ¬ Fits costs.entry.weights.now carried costs.entry.workers lower stages true 0) }
 {
     let mut low = 0;
     let mut high = total(costs.weights);

@@ -30,9 +30,12 @@ pub struct Needs {
 /// How many stages are needed from each unit on, where none may cost more than the bound.
 pub fn stage_needs(alloc: Global, costs: Costs<'_>, bound: u64) -> Result<Needs, NoMemory>
     requires { AreCosts costs.weights.now costs.limits.now costs.workers }
-    ensures length { IfOk result (λ n. (length n.after_seq.items ≡ length costs.entry.weights.now + 1) × (length n.after_par.items ≡ length costs.entry.weights.now + 1)) }
-    ensures seq { IfOk result (λ n. (carried : List (ℕ × ℕ)) → AreLimits carried costs.entry.limits.now → TellsNeed costs.entry.weights.now carried costs.entry.workers bound false 0 n.after_seq.items) }
-    ensures par { IfOk result (λ n. (carried : List (ℕ × ℕ)) → AreLimits carried costs.entry.limits.now → TellsNeed costs.entry.weights.now carried costs.entry.workers bound true 0 n.after_par.items) }
+    ensures length { IfOk result (λ n. (length n.after_seq.items ≡ length costs.entry.weights.now + 1)
+        × (length n.after_par.items ≡ length costs.entry.weights.now + 1)) }
+    ensures seq { IfOk result (λ n. (carried : List (ℕ × ℕ)) → AreLimits carried costs.entry.limits.now →
+        TellsNeed costs.entry.weights.now carried costs.entry.workers bound false 0 n.after_seq.items) }
+    ensures par { IfOk result (λ n. (carried : List (ℕ × ℕ)) → AreLimits carried costs.entry.limits.now →
+        TellsNeed costs.entry.weights.now carried costs.entry.workers bound true 0 n.after_par.items) }
 {
     let count = costs.weights.len();
     let mut after_seq = vec![in alloc; 0; count + 1]?;
@@ -62,7 +65,8 @@ fn need_from(
     requires begin { begin < length costs.weights.now }
     requires seq { length after_seq.now ≡ length costs.weights.now + 1 }
     requires par { length after_par.now ≡ length costs.weights.now + 1 }
-    ensures { (most : ℕ) → most ≤ 8 → (result ≤ most) ↔ HasFirst costs.entry.weights.now costs.entry.limits.now costs.entry.workers bound after_seq.now after_par.now closed begin (length costs.entry.weights.now) most }
+    ensures { (most : ℕ) → most ≤ 8 → (result ≤ most) ↔ HasFirst costs.entry.weights.now costs.entry.limits.now costs.entry.workers bound after_seq.now
+        after_par.now closed begin (length costs.entry.weights.now) most }
 {
     let mut least = MANY;
     let mut weight = 0;
@@ -105,7 +109,8 @@ fn lesser_need(
     requires few { workers < 9 }
     requires weight { weight < 2 ^ 63 }
     ensures few { result ≤ least }
-    ensures need { (most : ℕ) → most ≤ 8 → (result ≤ most) ↔ (least ≤ most) ⊎ ((replicated : Bool) × StageFits workers bound may_replicate weight after_seq after_par most replicated) }
+    ensures need { (most : ℕ) → most ≤ 8 → (result ≤ most) ↔ (least ≤ most)
+        ⊎ ((replicated : Bool) × StageFits workers bound may_replicate weight after_seq after_par most replicated) }
 {
     let mut needed = least;
     if weight <= bound && after_seq < 8 && after_seq + 1 < needed {

@@ -52,11 +52,14 @@ fn stretches(
     requires costs { AreCosts costs.weights.now costs.limits.now costs.workers }
     requires seq_length { length needs.now.after_seq.items ≡ length costs.weights.now + 1 }
     requires par_length { length needs.now.after_par.items ≡ length costs.weights.now + 1 }
-    requires seq { (carried : List (ℕ × ℕ)) → AreLimits carried costs.limits.now → TellsNeed costs.weights.now carried costs.workers bound false 0 needs.now.after_seq.items }
-    requires par { (carried : List (ℕ × ℕ)) → AreLimits carried costs.limits.now → TellsNeed costs.weights.now carried costs.workers bound true 0 needs.now.after_par.items }
+    requires seq { (carried : List (ℕ × ℕ)) → AreLimits carried costs.limits.now → TellsNeed costs.weights.now carried costs.workers bound false 0
+        needs.now.after_seq.items }
+    requires par { (carried : List (ℕ × ℕ)) → AreLimits carried costs.limits.now → TellsNeed costs.weights.now carried costs.workers bound true 0
+        needs.now.after_par.items }
     requires few { stages < 9 }
     requires fits { (carried : List (ℕ × ℕ)) → AreLimits carried costs.limits.now → Fits costs.weights.now carried costs.workers bound stages true 0 }
-    ensures { IfOk result (λ cut. (carried : List (ℕ × ℕ)) → AreLimits carried costs.entry.limits.now → Best costs.entry.weights.now carried costs.entry.workers bound stages true 0 cut) }
+    ensures { IfOk result (λ cut. (carried : List (ℕ × ℕ)) → AreLimits carried costs.entry.limits.now →
+        Best costs.entry.weights.now carried costs.entry.workers bound stages true 0 cut) }
 {
     let mut cut = Row::new(alloc);
     let mut begin = 0;
@@ -86,9 +89,12 @@ fn next_stage(
     requires left { left < 8 }
     requires seq_length { length needs.now.after_seq.items ≡ length costs.weights.now + 1 }
     requires par_length { length needs.now.after_par.items ≡ length costs.weights.now + 1 }
-    requires seq { (carried : List (ℕ × ℕ)) → AreLimits carried costs.limits.now → TellsNeed costs.weights.now carried costs.workers bound false 0 needs.now.after_seq.items }
-    requires par { (carried : List (ℕ × ℕ)) → AreLimits carried costs.limits.now → TellsNeed costs.weights.now carried costs.workers bound true 0 needs.now.after_par.items }
-    ensures { (carried : List (ℕ × ℕ)) → AreLimits carried costs.entry.limits.now → Fits costs.entry.weights.now carried costs.entry.workers bound (left + 1) closed begin → IsBeginning costs.entry.weights.now carried costs.entry.workers bound left closed begin result }
+    requires seq { (carried : List (ℕ × ℕ)) → AreLimits carried costs.limits.now → TellsNeed costs.weights.now carried costs.workers bound false 0
+        needs.now.after_seq.items }
+    requires par { (carried : List (ℕ × ℕ)) → AreLimits carried costs.limits.now → TellsNeed costs.weights.now carried costs.workers bound true 0
+        needs.now.after_par.items }
+    ensures { (carried : List (ℕ × ℕ)) → AreLimits carried costs.entry.limits.now → Fits costs.entry.weights.now carried costs.entry.workers bound (left + 1)
+        closed begin → IsBeginning costs.entry.weights.now carried costs.entry.workers bound left closed begin result }
 {
     let count = costs.weights.len();
     if let Some(replicated) = kind(costs, bound, begin, count, closed) {
@@ -127,12 +133,17 @@ fn first_kind(
     requires left { left < 8 }
     requires seq_length { length needs.now.after_seq.items ≡ length costs.weights.now + 1 }
     requires par_length { length needs.now.after_par.items ≡ length costs.weights.now + 1 }
-    requires seq { (carried : List (ℕ × ℕ)) → AreLimits carried costs.limits.now → TellsNeed costs.weights.now carried costs.workers bound false 0 needs.now.after_seq.items }
-    requires par { (carried : List (ℕ × ℕ)) → AreLimits carried costs.limits.now → TellsNeed costs.weights.now carried costs.workers bound true 0 needs.now.after_par.items }
+    requires seq { (carried : List (ℕ × ℕ)) → AreLimits carried costs.limits.now → TellsNeed costs.weights.now carried costs.workers bound false 0
+        needs.now.after_seq.items }
+    requires par { (carried : List (ℕ × ℕ)) → AreLimits carried costs.limits.now → TellsNeed costs.weights.now carried costs.workers bound true 0
+        needs.now.after_par.items }
     ensures stands { IfSome result (λ r. Stands costs.entry.weights.now costs.entry.limits.now costs.entry.workers bound closed begin end r) }
     ensures least { IfSome result (λ r. r ≡ true → bound < weight_between costs.entry.weights.now begin end) }
-    ensures rest { IfSome result (λ r. (carried : List (ℕ × ℕ)) → AreLimits carried costs.entry.limits.now → Fits costs.entry.weights.now carried costs.entry.workers bound left r end) }
-    ensures none { IfNone result ((carried : List (ℕ × ℕ)) → AreLimits carried costs.entry.limits.now → (r : Bool) → MayStand costs.entry.weights.now carried costs.entry.workers bound closed begin end r → ¬ Fits costs.entry.weights.now carried costs.entry.workers bound left r end) }
+    ensures rest { IfSome result (λ r. (carried : List (ℕ × ℕ)) → AreLimits carried costs.entry.limits.now →
+        Fits costs.entry.weights.now carried costs.entry.workers bound left r end) }
+    ensures none { IfNone result ((carried : List (ℕ × ℕ)) → AreLimits carried costs.entry.limits.now → (r : Bool) →
+        MayStand costs.entry.weights.now carried costs.entry.workers bound closed begin end r →
+        ¬ Fits costs.entry.weights.now carried costs.entry.workers bound left r end) }
 {
     match kind(costs, bound, begin, end, closed) {
         Some(replicated) => {

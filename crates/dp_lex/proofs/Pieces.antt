@@ -1,5 +1,6 @@
 -- What the scan skips at the front of a text is white space or a comment.
-use Rattle.std.proofs.Common.{◌≡◌, ℕ, suc, ◌+◌, ◌<◌, true, not, ◌||◌, ◌⊎◌, ◌==◌, if◌then◌else◌, inl, inr, [], ◌∷◌, ◌++◌, length, take, drop, slice_index, codes, Option, Some, None, refl, sym, ◌∙◌, ap, append_assoc, length-append, take_at, take-append-drop, get_or-drop, add-zero, arith}
+use Rattle.std.proofs.Common.{◌≡◌, ℕ, suc, ◌+◌, ◌<◌, true, not, ◌||◌, ◌⊎◌, ◌==◌, if◌then◌else◌, inl, inr, [], ◌∷◌, ◌++◌, length, take, drop, slice_index, codes}
+use Rattle.std.proofs.Common.{Option, Some, None, refl, sym, ◌∙◌, ap, append_assoc, length-append, take_at, take-append-drop, get_or-drop, add-zero, arith}
 use Rattle.std.specs.List.{prefix_len}
 use Rattle.std.proofs.lemmas.Bool.{cases_lt, and_parts, and_from, eqb-true, eq-eqb, not-true, not-false, cond_both, or_cases, or_left, or_right, eqb-false}
 use Rattle.std.proofs.lemmas.List.{drop_all}
@@ -17,7 +18,8 @@ blank_skips : (z : Text) → is_white (slice_index z 0) ≡ true → Skips z (ta
 blank_skips [] white = absurd (cc white)
 blank_skips (b ∷ z) white = record { rest = z; splits = refl; skipped = inl (record { byte = b; white = white; spelled = refl }) }
 
-line_ends_there : (z : Text) → (drop (prefix_len (is_in class.Comment) z) z ≡ []) ⊎ (is_line_end (slice_index (drop (prefix_len (is_in class.Comment) z) z) 0) ≡ true)
+line_ends_there : (z : Text) → (drop (prefix_len (is_in class.Comment) z) z ≡ [])
+    ⊎ (is_line_end (slice_index (drop (prefix_len (is_in class.Comment) z) z) 0) ≡ true)
 line_ends_there z =
     let n = prefix_len (is_in class.Comment) z in
     elim (cases_lt n (length z)) [
@@ -70,8 +72,14 @@ block_skips (x ∷ y ∷ z) a b more = rw (a, b) (block_skips_found z (closing z
 pub opens_from_test : (z : Text) → opens_comment z ≡ true → OpensComment z
 unfolding opens_comment
 opens_from_test z t =
-    let parts = and_parts (slice_index z 0 == 47) (slice_index z 1 == 47 || slice_index z 1 == 42) t in
-    (eqb-true _ 47 parts.0, elim (or_cases (slice_index z 1 == 47) (slice_index z 1 == 42) parts.1) [ inl h ↦ inl (eqb-true _ 47 h) | inr h ↦ inr (eqb-true _ 42 h) ])
+    let parts = and_parts (slice_index z 0 == 47) (slice_index z 1 == 47 || slice_index z 1 == 42) t in (
+      eqb-true _ 47 parts.0,
+      elim (or_cases (slice_index z 1 == 47) (slice_index z 1 == 42) parts.1) [
+        | inl h ↦ inl (eqb-true _ 47 h)
+        | inr h ↦
+            inr (eqb-true _ 42 h)
+      ],
+    )
 
 pub test_from_opens : (z : Text) → OpensComment z → opens_comment z ≡ true
 unfolding opens_comment

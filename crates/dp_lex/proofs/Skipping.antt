@@ -1,10 +1,11 @@
 -- What is skipped at the front of a text is one piece, and its length is what the scan says; where `*/` stands first.
-use Rattle.std.proofs.Common.{◌≡◌, ℕ, ◌+◌, ◌<◌, true, false, ◌&&◌, ◌≢◌, ◌⊎◌, ◌==◌, inl, inr, [], ◌∷◌, ◌++◌, length, take, slice_index, codes, Option, Some, None, All, refl, sym, ◌∙◌, ap, append_assoc, length-append, take_at, arith, ◌≤◌, drop, get_or-drop, add-zero}
+use Rattle.std.proofs.Common.{◌≡◌, ℕ, ◌+◌, ◌<◌, true, false, ◌&&◌, ◌≢◌, ◌⊎◌, ◌==◌, inl, inr, [], ◌∷◌, ◌++◌, length, take, slice_index, codes, Option, Some}
+use Rattle.std.proofs.Common.{None, All, refl, sym, ◌∙◌, ap, append_assoc, length-append, take_at, arith, ◌≤◌, drop, get_or-drop, add-zero}
 use Rattle.std.specs.List.{prefix_len}
 use Rattle.std.proofs.lemmas.Bool.{cases_Bool, and_parts, and_from, and_right, eqb-true, eq-eqb, not_from_false, both_ways, false_from_ne_true}
 use Rattle.dp_lex.specs.declared.front.Class.TheVariants as class
 use Rattle.dp_lex.specs.Characters.{Text, is_white, is_line_end}
-use Rattle.dp_lex.specs.Scan.{closes, closing, closing_or, opens_comment, skipped, is_in}
+use Rattle.dp_lex.specs.Scan.{closes_comment, closing, closing_or, opens_comment, skipped, is_in}
 use Rattle.dp_lex.specs.Front.{IsSkipped, Skips}
 use Rattle.dp_lex.proofs.Runs.{run_exact, run_none}
 use Rattle.std.proofs.lemmas.List.{drop_more, drop_all}
@@ -17,7 +18,7 @@ clear_nil : IsClear []
 clear_nil front back e = absurd (omega (arith, ap length e, length-append front (codes "*/" ++ back)))
 
 -- the first byte of a clear body doesn't begin `*/`
-clear_here : (b : ℕ) (body rest : Text) → IsClear (b ∷ body) → closes (b ∷ (body ++ (codes "*/" ++ rest))) 0 ≡ false
+clear_here : (b : ℕ) (body rest : Text) → IsClear (b ∷ body) → closes_comment (b ∷ (body ++ (codes "*/" ++ rest))) 0 ≡ false
 clear_here b [] rest clear = and_right (b == 42) false refl
 clear_here b (c ∷ body) rest clear =
     false_from_ne_true (b == 42 && c == 47) (λ t.
@@ -26,7 +27,7 @@ clear_here b (c ∷ body) rest clear =
     clear [] body (rw (star, slash) refl))
 
 -- and a body is clear where its first byte doesn't begin `*/` and its rest is clear
-clear_more : (b : ℕ) (body rest : Text) → closes (b ∷ (body ++ (codes "*/" ++ rest))) 0 ≡ false → IsClear body → IsClear (b ∷ body)
+clear_more : (b : ℕ) (body rest : Text) → closes_comment (b ∷ (body ++ (codes "*/" ++ rest))) 0 ≡ false → IsClear body → IsClear (b ∷ body)
 clear_more b body rest test clear [] back e =
     let star : b ≡ 42 = cc in let tail : body ≡ 47 ∷ back = cc in
     let slash : slice_index (body ++ (codes "*/" ++ rest)) 0 ≡ 47 = rw tail refl in
@@ -53,16 +54,16 @@ pub record Splits (z : Text) (n : ℕ) : Type 0 where
   pub long : n ≡ length body + 2
   pub clear : IsClear body
 
-splits_here : (b : ℕ) (z : Text) → closes (b ∷ z) 0 ≡ true → Splits (b ∷ z) 2
+splits_here : (b : ℕ) (z : Text) → closes_comment (b ∷ z) 0 ≡ true → Splits (b ∷ z) 2
 splits_here b [] test = absurd (cc (and_parts (b == 42) false test).1)
 splits_here b (c ∷ z) test =
     let parts = and_parts (b == 42) (c == 47) test in let star : b ≡ 42 = eqb-true b 42 parts.0 in
     let slash : c ≡ 47 = eqb-true c 47 parts.1 in
     record { body = []; rest = z; splits = rw (star, slash) refl; long = refl; clear = clear_nil }
 
-splits_more : (b : ℕ) (z : Text) (m : ℕ) → closes (b ∷ z) 0 ≡ false → Splits z m → Splits (b ∷ z) (m + 1)
+splits_more : (b : ℕ) (z : Text) (m : ℕ) → closes_comment (b ∷ z) 0 ≡ false → Splits z m → Splits (b ∷ z) (m + 1)
 splits_more b z m test s =
-    let here : closes (b ∷ (s.body ++ (codes "*/" ++ s.rest))) 0 ≡ false = rw (← s.splits) test in
+    let here : closes_comment (b ∷ (s.body ++ (codes "*/" ++ s.rest))) 0 ≡ false = rw (← s.splits) test in
     record {
       body = b ∷ s.body;
       rest = s.rest;
@@ -76,7 +77,7 @@ pub closing_splits : (z : Text) (n : ℕ) → closing z ≡ Some n → Splits z 
 unfolding closing
 closing_splits [] n e = absurd (cc e)
 closing_splits (b ∷ z) n e =
-    elim (cases_Bool (closes (b ∷ z) 0)) [
+    elim (cases_Bool (closes_comment (b ∷ z) 0)) [
       | inl t ↦
           let two : n ≡ 2 = let f : Some 2 ≡ Some n = rw t at e in cc in
           rw two (splits_here b z t)
@@ -95,7 +96,8 @@ comment_end : (rest : Text) → (rest ≡ []) ⊎ (is_line_end (slice_index rest
 comment_end rest (inl e) = rw e
 comment_end rest (inr e) = run_none (is_in class.Comment) rest (rw e)
 
-line_len : (body rest : Text) → All (λ b. is_line_end b ≡ false) body → (rest ≡ []) ⊎ (is_line_end (slice_index rest 0) ≡ true) → skipped (codes "//" ++ (body ++ rest)) ≡ 2 + length body
+line_len : (body rest : Text) → All (λ b. is_line_end b ≡ false) body → (rest ≡ []) ⊎ (is_line_end (slice_index rest 0) ≡ true) →
+    skipped (codes "//" ++ (body ++ rest)) ≡ 2 + length body
 unfolding skipped opens_comment
 line_len body rest inside ends =
     let long = run_exact (is_in class.Comment) body rest (λ k d h. not_from_false _ (inside k d h)) (comment_end rest ends) in
@@ -140,14 +142,15 @@ unfolding shifted
 shifted_more n None = refl
 shifted_more n (Some m) = ap (λ (k : ℕ). Some k) (omega arith)
 
-closing_at : (z : Text) (at : ℕ) → at < length z → closing (drop at z) ≡ closing_or (closes z at) (closing (drop (at + 1) z))
+closing_at : (z : Text) (at : ℕ) → at < length z → closing (drop at z) ≡ closing_or (closes_comment z at) (closing (drop (at + 1) z))
 unfolding closing
 closing_at z at h = rw (drop_more z at 0 h, get_or-drop (at + 1) z 0 0, add-zero (at + 1)) refl
 
-pub closing_goes : (z : Text) (at : ℕ) → at < length z → closes z at ≡ false → shifted at (closing (drop at z)) ≡ shifted (at + 1) (closing (drop (at + 1) z))
+pub closing_goes : (z : Text) (at : ℕ) → at < length z → closes_comment z at ≡ false → shifted at (closing (drop at z)) ≡ shifted (at + 1)
+    (closing (drop (at + 1) z))
 closing_goes z at h test = rw (closing_at z at h, test) (shifted_more at (closing (drop (at + 1) z)))
 
-pub closing_stops : (z : Text) (at : ℕ) → at < length z → closes z at ≡ true → shifted at (closing (drop at z)) ≡ Some (at + 2)
+pub closing_stops : (z : Text) (at : ℕ) → at < length z → closes_comment z at ≡ true → shifted at (closing (drop at z)) ≡ Some (at + 2)
 unfolding shifted
 closing_stops z at h test = rw (closing_at z at h, test) refl
 

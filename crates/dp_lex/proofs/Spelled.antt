@@ -1,5 +1,7 @@
 -- The word, the sign and the mark at the front of a text are the longest tokens there.
-use Rattle.std.proofs.Common.{◌≡◌, ◌≤◌, Bool, true, false, ◌⊎◌, if◌then◌else◌, inl, inr, length, take, drop, slice_index, All, refl, sym, take-append-drop, get_or-take, ℕ, ◌&&◌, ◌==◌, nat_le, [], ◌∷◌, Some, None, length-append, take_at, arith, ◌+◌, ◌<◌, nat_lt, ◌++◌, codes, lt-ltb, ltb-true, ◌∙◌, ap, append_assoc, length-take-le, drop_at, get_or-drop}
+use Rattle.std.proofs.Common.{◌≡◌, ◌≤◌, Bool, true, false, ◌⊎◌, if◌then◌else◌, inl, inr, length, take, drop, slice_index, All, refl, sym, take-append-drop}
+use Rattle.std.proofs.Common.{get_or-take, ℕ, ◌&&◌, ◌==◌, nat_le, [], ◌∷◌, Some, None, length-append, take_at, arith, ◌+◌, ◌<◌, nat_lt, ◌++◌, codes, lt-ltb}
+use Rattle.std.proofs.Common.{ltb-true, ◌∙◌, ap, append_assoc, length-take-le, drop_at, get_or-drop}
 use Rattle.std.specs.List.{prefix_len}
 use Rattle.std.proofs.lemmas.Bool.{both_ways, and_parts, and_from, or_cases, eqb-true, leb-true, le-leb, cond_both, not-true, not_from_false}
 use Rattle.std.proofs.lemmas.List.Sums.{prefix_len-le-length}
@@ -36,7 +38,8 @@ word_bytes Sign w (inr e) s = absurd (cc e)
 word_bound : (kind : TokenKind) (w z : Text) → CanStand kind w z → is_letter (slice_index z 0) ≡ true → length w ≤ prefix_len is_word z
 word_bound kind w z s letter = rw s.splits (run_reaches is_word w s.rest (word_bytes kind w (word_kind kind w z s letter) s.spelled))
 
-word_spelled : (w : Text) (t : Bool) → is_one_of reserved_words w ≡ t → is_letter (slice_index w 0) ≡ true → All (λ b. is_word b ≡ true) w → IsSpelled (if t then Reserved else Name) w
+word_spelled : (w : Text) (t : Bool) → is_one_of reserved_words w ≡ t → is_letter (slice_index w 0) ≡ true → All (λ b. is_word b ≡ true) w →
+    IsSpelled (if t then Reserved else Name) w
 word_spelled w true e letter all = contains_from_test reserved_words w e
 word_spelled w false e letter all = record { first = letter; others = all; free = λ h. both_ways _ e (test_from_contains reserved_words w h) }
 
@@ -61,7 +64,8 @@ word_found z letter =
       within,
     )
 
-sign_kind : (kind : TokenKind) (w z : Text) → CanStand kind w z → is_letter (slice_index z 0) ≡ false → is_ascii_digit (slice_index z 0) ≡ false → (slice_index z 0 == 35) ≡ false → kind ≡ Sign
+sign_kind : (kind : TokenKind) (w z : Text) → CanStand kind w z → is_letter (slice_index z 0) ≡ false → is_ascii_digit (slice_index z 0) ≡ false →
+    (slice_index z 0 == 35) ≡ false → kind ≡ Sign
 sign_kind kind w z s letter digit mark = rw (letter, digit, mark) at (first_kind kind w z s)
 
 -- what begins neither a word nor a number nor a mark can begin signs alone
@@ -133,7 +137,8 @@ record IsRun (w z : Text) : Type 0 where
   long : 11 + prefix_len is_gap (drop 7 z) ≡ length w
   test : (is_pragma z && (nat_lt 0 (prefix_len is_gap (drop 7 z)) && is_named (drop (prefix_len is_gap (drop 7 z)) (drop 7 z)))) ≡ true
 
-mark_run_at : (gap rest : Text) → 0 < length gap → All (λ b. is_gap b ≡ true) gap → is_word (slice_index rest 0) ≡ false → IsRun (codes "#pragma" ++ (gap ++ codes "dswp")) (codes "#pragma" ++ (gap ++ (codes "dswp" ++ rest)))
+mark_run_at : (gap rest : Text) → 0 < length gap → All (λ b. is_gap b ≡ true) gap → is_word (slice_index rest 0) ≡ false →
+    IsRun (codes "#pragma" ++ (gap ++ codes "dswp")) (codes "#pragma" ++ (gap ++ (codes "dswp" ++ rest)))
 unfolding is_pragma is_named
 mark_run_at gap rest some blanks alone =
     let n : prefix_len is_gap (gap ++ (codes "dswp" ++ rest)) ≡ length gap = run_exact is_gap gap (codes "dswp" ++ rest) blanks refl in
@@ -163,14 +168,16 @@ marked n z test =
     let named = and_parts _ _ more.1 in
     let front : codes "#pragma" ≡ take 7 z = (bytes_eq-Decides (codes "#pragma") (take 7 z)).0 parts.0 in
     let name : codes "dswp" ≡ take 4 m = (bytes_eq-Decides (codes "dswp") (take 4 m)).0 named.0 in
-    let tail : (take n r ++ codes "dswp") ++ drop 4 m ≡ r = append_assoc (take n r) (codes "dswp") (drop 4 m) ∙ (ap (λ (x : Text). take n r ++ (x ++ drop 4 m)) name ∙ (ap (λ (x : Text). take n r ++ x) (take-append-drop 4 m) ∙ take-append-drop n r)) in
+    let tail : (take n r ++ codes "dswp") ++ drop 4 m ≡ r = append_assoc (take n r) (codes "dswp") (drop 4 m)
+    ∙ (ap (λ (x : Text). take n r ++ (x ++ drop 4 m)) name ∙ (ap (λ (x : Text). take n r ++ x) (take-append-drop 4 m) ∙ take-append-drop n r)) in
     record {
       splits = sym (take-append-drop 7 z) ∙ (ap (λ (x : Text). x ++ r) (sym front) ∙ ap (λ (x : Text). codes "#pragma" ++ x) (sym tail));
       some = ltb-true 0 n more.0;
       alone = not-true _ named.1;
     }
 
-mark_stands : (z : Text) → IsMarked (prefix_len is_gap (drop 7 z)) z → CanStand Mark (take (11 + prefix_len is_gap (drop 7 z)) z) z × (11 + prefix_len is_gap (drop 7 z) ≤ length z)
+mark_stands : (z : Text) → IsMarked (prefix_len is_gap (drop 7 z)) z → CanStand Mark (take (11 + prefix_len is_gap (drop 7 z)) z) z
+    × (11 + prefix_len is_gap (drop 7 z) ≤ length z)
 mark_stands z k =
     let r = drop 7 z in let n = prefix_len is_gap r in let w = codes "#pragma" ++ (take n r ++ codes "dswp") in
     let rest = drop 4 (drop n r) in

@@ -21,6 +21,8 @@ pub first_same : (kind : TokenKind) (w z : Text) → CanStand kind w z → slice
 first_same kind w z s = front_reads 0 z w s.rest s.splits 0 (spelled_some kind w s.spelled)
 
 -- so the first byte of the text tells its kind
-pub first_kind : (kind : TokenKind) (w z : Text) → CanStand kind w z → kind ≡ (if is_letter (slice_index z 0) then (if is_one_of reserved_words w then Reserved else Name) else (if is_ascii_digit (slice_index z 0) then Number else (if slice_index z 0 == 35 then Mark else Sign)))
+pub first_kind : (kind : TokenKind) (w z : Text) → CanStand kind w z →
+    kind ≡ (if is_letter (slice_index z 0) then (if is_one_of reserved_words w then Reserved else Name) else (if is_ascii_digit (slice_index z 0) then Number
+    else (if slice_index z 0 == 35 then Mark else Sign)))
 unfolding kind_of
 first_kind kind w z s = rw (first_same kind w z s) (sym (spelled_kind kind w s.spelled))

@@ -45,7 +45,7 @@ pub record CanStand (kind : TokenKind) (w z : Text) : Type 0 where
   pub alone : MayPrecede kind rest
 
 -- the token at the front of z is of the kind and spelled w: the longest that can stand there, and no comment opens
-pub record Begins (z : Text) (kind : TokenKind) (w : Text) : Type 0 where
+pub record BeginsWithToken (z : Text) (kind : TokenKind) (w : Text) : Type 0 where
   pub no_comment : ¬ OpensComment z
   pub stands : CanStand kind w z
   pub longest : (other : TokenKind) (v : Text) → CanStand other v z → length v ≤ length w
@@ -54,4 +54,4 @@ pub record Begins (z : Text) (kind : TokenKind) (w : Text) : Type 0 where
 pub record IsStuck (z : Text) : Type 0 where
   pub more : z ≢ []
   pub not_skipped : (c : Text) → ¬ Skips z c
-  pub no_token : (kind : TokenKind) (w : Text) → ¬ Begins z kind w
+  pub no_token : (kind : TokenKind) (w : Text) → ¬ BeginsWithToken z kind w

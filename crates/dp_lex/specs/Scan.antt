@@ -1,5 +1,6 @@
 -- What the lexer's own functions compute at the front of a text. What a text's tokens are is said without it, in Front and Tokens.
-use Rattle.std.specs.Prelude.{ℕ, ◌+◌, Bool, true, false, not, ◌&&◌, ◌||◌, ◌==◌, if◌then◌else◌, nat_le, nat_lt, List, [], ◌∷◌, take, drop, length, slice_index, Option, Some, None, codes}
+use Rattle.std.specs.Prelude.{ℕ, ◌+◌, Bool, true, false, not, ◌&&◌, ◌||◌, ◌==◌, if◌then◌else◌, nat_le, nat_lt, List, [], ◌∷◌, take, drop, length, slice_index}
+use Rattle.std.specs.Prelude.{Option, Some, None, codes}
 use Rattle.std.specs.Char.{is_ascii_digit}
 use Rattle.std.specs.List.{prefix_len, list_any}
 use Rattle.std.specs.Str.{bytes_eq}
@@ -33,8 +34,8 @@ unfoldable pub opens_comment : Text → Bool
 opens_comment z = slice_index z 0 == 47 && (slice_index z 1 == 47 || slice_index z 1 == 42)
 
 -- `*/` stands at the place
-abbrev pub closes : Text → ℕ → Bool
-closes z at = slice_index z at == 42 && slice_index z (at + 1) == 47
+abbrev pub closes_comment : Text → ℕ → Bool
+closes_comment z at = slice_index z at == 42 && slice_index z (at + 1) == 47
 
 -- 2 where the text begins with `*/`, or else one more than in the rest
 abbrev pub closing_or : Bool → Option ℕ → Option ℕ
@@ -45,7 +46,7 @@ closing_or false (Some n) = Some (n + 1)
 -- the length up to the first `*/` and with it, if there is one
 unfoldable pub closing : Text → Option ℕ
 closing [] = None
-closing (b ∷ z) = closing_or (closes (b ∷ z) 0) (closing z)
+closing (b ∷ z) = closing_or (closes_comment (b ∷ z) 0) (closing z)
 
 -- the length of a comment between `/*` and `*/`, or 0 if it is not closed
 abbrev pub block_len : Option ℕ → ℕ
@@ -68,17 +69,17 @@ word z =
     Some (if is_one_of reserved_words (take n z) then Reserved else Name, n)
 
 -- the digits are worth at most the largest number
-unfoldable pub fits : Text → Bool
-fits w = nat_le (digits_value 10 w) 9223372036854775807
+unfoldable pub fits_number : Text → Bool
+fits_number w = nat_le (digits_value 10 w) 9223372036854775807
 
 -- `0`, or digits of which the first isn't `0`
-abbrev pub is_plain : Text → Bool
-is_plain w = length w == 1 || not (slice_index w 0 == 48)
+abbrev pub is_plain_number : Text → Bool
+is_plain_number w = length w == 1 || not (slice_index w 0 == 48)
 
-unfoldable pub number : Text → Found
-number z =
+unfoldable pub number_scanned : Text → Found
+number_scanned z =
     let n = prefix_len is_ascii_digit z in
-    if is_plain (take n z) && fits (take n z) && not (is_word (slice_index z n)) then Some (Number, n) else None
+    if is_plain_number (take n z) && fits_number (take n z) && not (is_word (slice_index z n)) then Some (Number, n) else None
 
 -- `#pragma` stands at the front
 unfoldable pub is_pragma : Text → Bool
@@ -103,6 +104,6 @@ unfoldable pub front : Text → Found
 front z =
     if opens_comment z then None
     else (if is_letter (slice_index z 0) then word z
-    else (if is_ascii_digit (slice_index z 0) then number z
+    else (if is_ascii_digit (slice_index z 0) then number_scanned z
     else (if slice_index z 0 == 35 then mark z
     else sign z)))

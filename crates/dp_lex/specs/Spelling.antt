@@ -22,7 +22,7 @@ pub record IsName (w : Text) : Type 0 where
   pub free : ¬ Contains reserved_words w
 
 -- `0`, or a digit from 1 to 9 followed by digits, with a value of at most 63 bits
-pub record IsNumber (w : Text) : Type 0 where
+pub record IsNumberText (w : Text) : Type 0 where
   pub some : 0 < length w
   pub digits : All (λ b. is_ascii_digit b ≡ true) w
   pub leading : slice_index w 0 ≡ 48 → length w ≡ 1
@@ -39,7 +39,7 @@ pub record IsMark (w : Text) : Type 0 where
 abbrev pub IsSpelled : TokenKind → Text → Type 0
 IsSpelled Name w = IsName w
 IsSpelled Reserved w = Contains reserved_words w
-IsSpelled Number w = IsNumber w
+IsSpelled Number w = IsNumberText w
 IsSpelled Mark w = IsMark w
 IsSpelled Sign w = Contains signs w
 

@@ -6,26 +6,28 @@ use Rattle.dp_lex.specs.declared.Token.{Token}
 use Rattle.dp_lex.specs.declared.LexRefused.{LexRefused}
 use Rattle.dp_lex.specs.Characters.{Text, line_ends}
 use Rattle.dp_lex.specs.Token.{Lexeme}
-use Rattle.dp_lex.specs.Front.{Skips, Begins, IsStuck}
+use Rattle.dp_lex.specs.Front.{Skips, BeginsWithToken, IsStuck}
 
 -- the line of a place, from 1
 abbrev pub line_at : Text → ℕ → ℕ
 line_at text place = 1 + line_ends (take place text)
 
 -- From the place `start` on the text is read as the tokens, with white space and comments skipped, up to the place `end`.
-pub data Reads (text : Text) : ℕ → List Lexeme → ℕ → Type 0 where
-  stays : {start : ℕ} → Reads text start [] start
-  skips : {start end : ℕ} {tokens : List Lexeme} (c : Text) → Skips (drop start text) c → Reads text (start + length c) tokens end → Reads text start tokens end
-  takes : {start end : ℕ} {tokens : List Lexeme} (kind : TokenKind) (w : Text) → Begins (drop start text) kind w → Reads text (start + length w) tokens end → Reads text start (record { kind = kind; text = w; line = line_at text start } ∷ tokens) end
+pub data ReadsTokens (text : Text) : ℕ → List Lexeme → ℕ → Type 0 where
+  stays : {start : ℕ} → ReadsTokens text start [] start
+  skips : {start end : ℕ} {tokens : List Lexeme} (c : Text) → Skips (drop start text) c → ReadsTokens text (start + length c) tokens end →
+      ReadsTokens text start tokens end
+  takes : {start end : ℕ} {tokens : List Lexeme} (kind : TokenKind) (w : Text) → BeginsWithToken (drop start text) kind w →
+      ReadsTokens text (start + length w) tokens end → ReadsTokens text start (record { kind = kind; text = w; line = line_at text start } ∷ tokens) end
 
 -- the tokens of a whole text, in order
 abbrev pub Tokens : Text → List Lexeme → Type 0
-Tokens text tokens = Reads text 0 tokens (length text)
+Tokens text tokens = ReadsTokens text 0 tokens (length text)
 
 -- the text is refused at the place, at which no token begins: before it stand tokens, white space and comments
 pub record RefusedAt (text : Text) (place : ℕ) : Type 0 where
   pub before : List Lexeme
-  pub reads : Reads text 0 before place
+  pub reads : ReadsTokens text 0 before place
   pub stuck : IsStuck (drop place text)
 
 -- a lexer stands at a place of its text
@@ -44,10 +46,10 @@ abbrev pub lexeme : Token → Lexeme
 lexeme t = record { kind = t.kind; text = t.text.now; line = t.line }
 
 -- What a lexer gives next, and where it stands then: the next token; nothing, at the end; a refusal, at the place of it.
-abbrev pub IsNext : Reading → Result (Option Token) LexRefused → Reading → Type 0
-IsNext from (Ok (Some t)) to = Reads from.text from.place (lexeme t ∷ []) to.place
-IsNext from (Ok None) to = Reads from.text from.place [] to.place × (to.place ≡ length from.text)
-IsNext from (Err refused) to = Reads from.text from.place [] to.place × IsStuck (drop to.place from.text) × (to.place ≡ refused.place)
+abbrev pub IsNextToken : Reading → Result (Option Token) LexRefused → Reading → Type 0
+IsNextToken from (Ok (Some t)) to = ReadsTokens from.text from.place (lexeme t ∷ []) to.place
+IsNextToken from (Ok None) to = ReadsTokens from.text from.place [] to.place × (to.place ≡ length from.text)
+IsNextToken from (Err refused) to = ReadsTokens from.text from.place [] to.place × IsStuck (drop to.place from.text) × (to.place ≡ refused.place)
 
 -- no token comes with the answer: it is the end or a refusal
 abbrev pub IsLastAnswer : Result (Option Token) LexRefused → Type 0

@@ -91,7 +91,7 @@ fn opens_comment(z: &[u8]) -> bool
 /// `*/` stands at the place.
 fn closes(z: &[u8], at: usize) -> bool
     requires { at < length z.now }
-    ensures value { result ≡ spec.closes z.now at }
+    ensures value { result ≡ spec.closes_comment z.now at }
     ensures within { IsTrue result → at + 2 ≤ length z.now }
 {
     z[at] == b'*' && byte(z, at + 1) == b'/'
@@ -147,10 +147,10 @@ fn word(z: &[u8]) -> Found
 }
 
 /// The value of the digits is at most the largest number.
-#[tactic(auto, unfolding(crate::specs::Scan::fits))]
+#[tactic(auto, unfolding(crate::specs::Scan::fits_number))]
 fn fits(digits: &[u8]) -> bool
     requires { All (λ b. is_ascii_digit b ≡ true) digits.now }
-    ensures { result ≡ spec.fits digits.now }
+    ensures { result ≡ spec.fits_number digits.now }
 {
     let mut value: u64 = 0;
     for b in digits {
@@ -163,10 +163,10 @@ fn fits(digits: &[u8]) -> bool
     true
 }
 
-#[tactic(auto, unfolding(crate::specs::Scan::number))]
+#[tactic(auto, unfolding(crate::specs::Scan::number_scanned))]
 fn number(z: &[u8]) -> Found
     requires { is_ascii_digit (slice_index z.now 0) ≡ true }
-    ensures value { result ≡ spec.number z.now }
+    ensures value { result ≡ spec.number_scanned z.now }
     ensures within { IfSome result (λ found. (1 ≤ found.1) × (found.1 ≤ length z.now)) }
 {
     let n = run(Class::Digit, z);

@@ -4,7 +4,7 @@ ghost use Rattle.std.specs.Prelude.{◌≡◌, ◌⊎◌, ℕ, List, Option, Res
 ghost use Rattle.dp_lex.specs.declared.LexRefused.{LexRefused};
 ghost use Rattle.dp_lex.specs.declared.Token.{Token};
 ghost use Rattle.dp_lex.specs.Token.{Lexeme};
-ghost use Rattle.dp_lex.specs.Tokens.{Tokens, RefusedAt, Reading, IsNext, IsLastAnswer};
+ghost use Rattle.dp_lex.specs.Tokens.{Tokens, RefusedAt, Reading, IsNextToken, IsLastAnswer};
 
 /// A text either has its tokens, and in one way only, or is refused, and at one place only.
 pub fn each_text_is_read_in_one_way(text: &[u8])
@@ -16,5 +16,6 @@ pub fn each_text_is_read_in_one_way(text: &[u8])
 
 /// After the end or a refusal a lexer's next answer is the same.
 pub fn a_last_answer_is_given_again()
-    ensures { (from to after : Reading) (answer next : Result (Option Token) LexRefused) → to.text ≡ from.text → IsLastAnswer answer → IsNext from answer to → IsNext to next after → next ≡ answer }
+    ensures { (from to after : Reading) (answer next : Result (Option Token) LexRefused) → to.text ≡ from.text → IsLastAnswer answer →
+        IsNextToken from answer to → IsNextToken to next after → next ≡ answer }
 {}

@@ -3,7 +3,7 @@
 ghost use Rattle.std.specs.Prelude.{◌≡◌, ◌≤◌, [], length, drop};
 ghost use Rattle.dp_base.specs.declared.limits.TheConstants.{PROGRAM_BYTES};
 ghost use Rattle.dp_lex.specs.Characters.{line_ends};
-ghost use Rattle.dp_lex.specs.Tokens.{Reads, IsNext};
+ghost use Rattle.dp_lex.specs.Tokens.{ReadsTokens, IsNextToken};
 ghost use Rattle.dp_lex.specs.Scan as spec;
 
 use crate::front::{front, skipped};
@@ -44,7 +44,7 @@ impl<'t> Lexer<'t> {
     /// The next token, or `None` at the end. After `None` or a refusal each later call answers the same.
     pub fn next(&mut self) -> Result<Option<Token<'t>>, LexRefused>
         ensures text { self.new.text ≡ self.old.text }
-        ensures next { IsNext self.old result self.new }
+        ensures next { IsNextToken self.old result self.new }
     {
         self.skip();
         let rest = &self.text[self.place..];
@@ -76,7 +76,7 @@ impl<'t> Lexer<'t> {
     /// Goes past white space and comments.
     fn skip(&mut self)
         ensures text { self.new.text ≡ self.old.text }
-        ensures reads { Reads self.old.text self.old.place [] self.new.place }
+        ensures reads { ReadsTokens self.old.text self.old.place [] self.new.place }
         ensures done { spec.skipped (drop self.new.place self.old.text) ≡ 0 }
     {
         loop {

@@ -1,5 +1,6 @@
 -- Which lines are names.
-use Rattle.std.proofs.Common.{◌≡◌, refl, sym, ℕ, suc, ◌==◌, ◌≤◌, Bool, true, false, not, ◌&&◌, nat_le, List, [], ◌∷◌, length, IsUtf8, Result, Ok, Err, MatchResult, is_ok, leb-true, le-leb, ne_eqb, arith}
+use Rattle.std.proofs.Common.{◌≡◌, refl, sym, ℕ, suc, ◌==◌, ◌≤◌, Bool, true, false, not, ◌&&◌, nat_le, List, [], ◌∷◌, length, IsUtf8, Result, Ok, Err}
+use Rattle.std.proofs.Common.{MatchResult, is_ok, leb-true, le-leb, ne_eqb, arith}
 use Rattle.std.specs.Str.{is_utf8}
 use Rattle.std.proofs.lemmas.Str.{IsUtf8-from_is_utf8, is_utf8-from_IsUtf8}
 use Rattle.dp_text.proofs.JoinLemmas.{lacks}
@@ -41,6 +42,7 @@ not_text bytes true e none = absurd (none (IsUtf8-from_is_utf8 bytes e))
 not_text bytes false e none = refl
 
 -- what a conversion to a text tells
-pub tells_text : {X E : Type 0} (bytes : List ℕ) (r : Result X E) (P : X → Type 0) (Q : E → Type 0) → MatchResult r (λ x. P x × IsUtf8 bytes) (λ e. ¬ (IsUtf8 bytes) × Q e) → is_ok r ≡ is_utf8 bytes
+pub tells_text : {X E : Type 0} (bytes : List ℕ) (r : Result X E) (P : X → Type 0) (Q : E → Type 0) →
+    MatchResult r (λ x. P x × IsUtf8 bytes) (λ e. ¬ (IsUtf8 bytes) × Q e) → is_ok r ≡ is_utf8 bytes
 tells_text bytes (Ok x) P Q h = sym (is_utf8-from_IsUtf8 bytes h.1)
 tells_text bytes (Err e) P Q h = not_text bytes (is_utf8 bytes) refl h.0

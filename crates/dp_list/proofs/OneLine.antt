@@ -15,7 +15,8 @@ one_byte : (is : Bool) (text : List ℕ) → (if is then Some [] else None) ≡ 
 one_byte true text h = let none : [] ≡ text = cc h in subst (λ (t : List ℕ). lacks 10 t ≡ true) none refl
 one_byte false text h = absurd (cc h)
 
-byte_more : (byte : ℕ) (said : Option (List ℕ)) (text : List ℕ) → (byte == 10) ≡ false → ((t : List ℕ) → said ≡ Some t → lacks 10 t ≡ true) → onto_text byte said ≡ Some text → lacks 10 text ≡ true
+byte_more : (byte : ℕ) (said : Option (List ℕ)) (text : List ℕ) → (byte == 10) ≡ false → ((t : List ℕ) → said ≡ Some t → lacks 10 t ≡ true) →
+    onto_text byte said ≡ Some text → lacks 10 text ≡ true
 byte_more byte None text other says h = absurd (cc h)
 byte_more byte (Some t) text other says h =
     let is : byte ∷ t ≡ text = cc h in
@@ -30,7 +31,8 @@ onto_pieces : (byte : ℕ) (pieces : List (List ℕ)) → (byte == 10) ≡ false
 onto_pieces byte [] other each = (λ text h. one_byte (byte == 10) text h, tt)
 onto_pieces byte (piece ∷ pieces) other each = (in_front byte piece other each.0, each.1)
 
-cut_case : (byte : ℕ) (text : List ℕ) (is : Bool) → (byte == 10) ≡ is → Each SaysOneLine (lines_of text) → Each SaysOneLine (if is then (byte ∷ []) ∷ lines_of text else onto_first byte (lines_of text))
+cut_case : (byte : ℕ) (text : List ℕ) (is : Bool) → (byte == 10) ≡ is → Each SaysOneLine (lines_of text) →
+    Each SaysOneLine (if is then (byte ∷ []) ∷ lines_of text else onto_first byte (lines_of text))
 cut_case byte text true e each = (λ t h. one_byte (byte == 10) t h, each)
 cut_case byte text false e each = onto_pieces byte (lines_of text) e each
 
@@ -39,7 +41,8 @@ pub say_one_line : (text : List ℕ) → Each SaysOneLine (lines_of text)
 say_one_line [] = tt
 say_one_line (byte ∷ text) = cut_case byte text (byte == 10) refl (say_one_line text)
 
-lacks_case : (byte : ℕ) (text : List ℕ) (is : Bool) → (byte == 10) ≡ is → (not is && lacks 10 text) ≡ true → (lacks 10 text ≡ true → All (λ b. b ≢ 10) text) → All (λ b. b ≢ 10) (byte ∷ text)
+lacks_case : (byte : ℕ) (text : List ℕ) (is : Bool) → (byte == 10) ≡ is → (not is && lacks 10 text) ≡ true → (lacks 10 text ≡ true → All (λ b. b ≢ 10) text) →
+    All (λ b. b ≢ 10) (byte ∷ text)
 lacks_case byte text true e h more = absurd (cc h)
 lacks_case byte text false e h more =
     All-cons (λ b. b ≢ 10) byte text (λ is. let no : (10 == 10) ≡ false = subst (λ (b : ℕ). (b == 10) ≡ false) is e in cc no) (more h)

@@ -1,6 +1,6 @@
 //! The names that a text lists.
 ghost use Rattle.std.specs.Prelude.{◌≡◌};
-ghost use Rattle.dp_list.specs.Refused.{ReadsAs};
+ghost use Rattle.dp_list.specs.Refused.{ReadsAsList};
 ghost use Rattle.dp_list.specs.steps.Ending.{IsShort, finished as names_of};
 ghost use Rattle.dp_list.specs.steps.Naming.{has_name, with_name};
 
@@ -55,7 +55,7 @@ fn finished(reading: Reading<Row<Row<u8>>>) -> Result<Row<Row<u8>>, ListFail>
 
 /// The names of a list's text, or the line at which it is refused.
 pub fn read_list(alloc: Global, bytes: &[u8]) -> Result<Row<Row<u8>>, ListFail>
-    ensures { ReadsAs bytes.now result }
+    ensures { ReadsAsList bytes.now result }
 {
     let reading = read_lines(alloc, &ListGrammar, Row::new(alloc), bytes)?;
     finished(reading)

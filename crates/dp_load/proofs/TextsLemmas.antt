@@ -8,7 +8,7 @@ use Rattle.dp_plan.specs.GivenPlans.{ArePlans}
 use Rattle.dp_words.specs.declared.task.PlanOptions.{PlanOptions}
 use Rattle.dp_calls.specs.Expand.{expand}
 use Rattle.dp_words.specs.Run as source
-use Rattle.dp_words.specs.Run.{Run, Least}
+use Rattle.dp_words.specs.Run.{RunAsked, Least}
 use Rattle.dp_profile.specs.declared.Profile.{Profile}
 use Rattle.dp_load.specs.Plans.{MakesPlans}
 use Rattle.dp_refusal.specs.declared.role.Role.{Role}
@@ -18,19 +18,22 @@ use Rattle.dp_load.specs.declared.load.Loaded.{Loaded}
 use Rattle.dp_load.specs.declared.load.Loaded.TheVariants.{Text, Refused, Failed}
 use Rattle.dp_load.specs.declared.texts.Texts.TheVariants as texts
 use Rattle.dp_load.specs.Roles.{Contents, ReadsInput, Input, Named, Profiled, NamedProfile, Plans, Automatic, ProfileRefused, Planned, some_read}
-use Rattle.dp_load.specs.Roles.{named_in}
-use Rattle.dp_refusal.specs.Refusal.{role_of}
+use Rattle.dp_load.specs.Roles.{source_name}
+use Rattle.dp_refusal.specs.Refusal.{plans_role}
 use Rattle.dp_load.specs.Program.{Expands, expanded}
-use Rattle.dp_load.specs.Loading.{ReadsProgram, LoadsProgram, LoadsPlans, LoadsProfile, Loads, FaultsAfterLoad, names_after, Gives}
-use Rattle.dp_load.specs.Texts.{Names, with_name, LoadsTexts, Loaded as LoadedTexts, ProgramRefused, InputRefused, PlansRefused, ProgramFailed, InputFailed, PlansFailed}
+use Rattle.dp_load.specs.Loading.{ReadsProgram, LoadsProgram, LoadsPlans, LoadsProfile, Loads, FaultsAfterLoad, names_after, GivesLoaded}
+use Rattle.dp_load.specs.Texts.{FailedNames, with_failed_name, LoadsTexts, Loaded as LoadedTexts, ProgramRefused, InputRefused, PlansRefused, ProgramFailed}
+use Rattle.dp_load.specs.Texts.{InputFailed, PlansFailed}
 
-same_names : (names : Names) → option_map (λ all. all) names ≡ names
+same_names : (names : FailedNames) → option_map (λ all. all) names ≡ names
 same_names None = refl
 same_names (Some all) = refl
 
 -- one load of a named text: what it gave, and what it left of the shelf
-pub gives : {X : Type 0} (P Q : Result X Refusal → Type 0) → ((o : Result X Refusal) → P o → Q o) → (name : List ℕ) (faults after : ℕ) (failed fails : Names) (r : Result (Loaded X) NoMemory) →
-    IfOk r (Loads P) → FaultsAfterLoad r faults after → fails ≡ option_map (names_after r name) failed → IfOk r (Gives Q (Some name) faults after failed fails)
+pub gives : {X : Type 0} (P Q : Result X Refusal → Type 0) → ((o : Result X Refusal) → P o → Q o) →
+    (name : List ℕ) (faults after : ℕ) (failed fails : FailedNames) (r : Result (Loaded X) NoMemory) →
+    IfOk r (Loads P) → FaultsAfterLoad r faults after → fails ≡ option_map (names_after r name) failed →
+    IfOk r (GivesLoaded Q (Some name) faults after failed fails)
 gives P Q weaker name faults after failed fails (Ok (Text x)) h f e = (weaker (Ok x) h, f, e ∙ same_names failed)
 gives P Q weaker name faults after failed fails (Ok (Refused refusal)) h f e = (weaker (Err refusal) h, f, e ∙ same_names failed)
 gives P Q weaker name faults after failed fails (Ok Failed) h f e = (name, refl, f, e)
@@ -40,34 +43,44 @@ gives P Q weaker name faults after failed fails (Err x) h f e = tt
 pub input_named : (contents : Contents) (name : List ℕ) (o : Result (List ℤ) Refusal) → ReadsInput contents name o → Input contents (Some name) o
 input_named contents name o h = Named name o h
 
-pub plans_named : (contents : Contents) (p : Program) (options : PlanOptions) (name : List ℕ) (o : Result (List Plan) Refusal) → LoadsPlans contents p name o → Plans contents p options (source.Named name) o
+pub plans_named : (contents : Contents) (p : Program) (options : PlanOptions) (name : List ℕ) (o : Result (List Plan) Refusal) → LoadsPlans contents p name o →
+    Plans contents p options (source.Named name) o
 plans_named contents p options name o h = Planned name h.text o h.held h.reads
 
 -- a program, an input and plans that are named
-pub program_gives : (contents : Contents) (name : List ℕ) (faults after : ℕ) (failed fails : Names) (r : Result (Loaded Program) NoMemory) →
-    IfOk r (Loads (LoadsProgram contents name)) → FaultsAfterLoad r faults after → fails ≡ option_map (names_after r name) failed → IfOk r (Gives (LoadsProgram contents name) (Some name) faults after failed fails)
-program_gives contents name faults after failed fails r h f e = gives (LoadsProgram contents name) (LoadsProgram contents name) (λ o k. k) name faults after failed fails r h f e
+pub program_gives : (contents : Contents) (name : List ℕ) (faults after : ℕ) (failed fails : FailedNames) (r : Result (Loaded Program) NoMemory) →
+    IfOk r (Loads (LoadsProgram contents name)) → FaultsAfterLoad r faults after → fails ≡ option_map (names_after r name) failed →
+    IfOk r (GivesLoaded (LoadsProgram contents name) (Some name) faults after failed fails)
+program_gives contents name faults after failed fails r h f e =
+    gives (LoadsProgram contents name) (LoadsProgram contents name) (λ o k. k) name faults after failed fails r h f e
 
-pub input_gives : (contents : Contents) (name : List ℕ) (faults after : ℕ) (failed fails : Names) (r : Result (Loaded (List ℤ)) NoMemory) →
-    IfOk r (Loads (ReadsInput contents name)) → FaultsAfterLoad r faults after → fails ≡ option_map (names_after r name) failed → IfOk r (Gives (Input contents (Some name)) (Some name) faults after failed fails)
-input_gives contents name faults after failed fails r h f e = gives (ReadsInput contents name) (Input contents (Some name)) (λ o k. input_named contents name o k) name faults after failed fails r h f e
+pub input_gives : (contents : Contents) (name : List ℕ) (faults after : ℕ) (failed fails : FailedNames) (r : Result (Loaded (List ℤ)) NoMemory) →
+    IfOk r (Loads (ReadsInput contents name)) → FaultsAfterLoad r faults after → fails ≡ option_map (names_after r name) failed →
+    IfOk r (GivesLoaded (Input contents (Some name)) (Some name) faults after failed fails)
+input_gives contents name faults after failed fails r h f e =
+    gives (ReadsInput contents name) (Input contents (Some name)) (λ o k. input_named contents name o k) name faults after failed fails r h f e
 
-pub plans_give : (contents : Contents) (p : Program) (options : PlanOptions) (name : List ℕ) (faults after : ℕ) (failed fails : Names) (r : Result (Loaded (List Plan)) NoMemory) →
-    IfOk r (Loads (LoadsPlans contents p name)) → FaultsAfterLoad r faults after → fails ≡ option_map (names_after r name) failed → IfOk r (Gives (Plans contents p options (source.Named name)) (Some name) faults after failed fails)
-plans_give contents p options name faults after failed fails r h f e = gives (LoadsPlans contents p name) (Plans contents p options (source.Named name)) (λ o k. plans_named contents p options name o k) name faults after failed fails r h f e
+pub plans_give : (contents : Contents) (p : Program) (options : PlanOptions) (name : List ℕ) (faults after : ℕ) (failed fails : FailedNames)
+    (r : Result (Loaded (List Plan)) NoMemory) →
+    IfOk r (Loads (LoadsPlans contents p name)) → FaultsAfterLoad r faults after → fails ≡ option_map (names_after r name) failed →
+    IfOk r (GivesLoaded (Plans contents p options (source.Named name)) (Some name) faults after failed fails)
+plans_give contents p options name faults after failed fails r h f e = gives (LoadsPlans contents p name) (Plans contents p options (source.Named name))
+    (λ o k. plans_named contents p options name o k) name faults after failed fails r h f e
 
-pub profile_gives : (contents : Contents) (p : Program) (name : List ℕ) (faults after : ℕ) (failed fails : Names) (r : Result (Loaded Profile) NoMemory) →
-    IfOk r (Loads (LoadsProfile contents p name)) → FaultsAfterLoad r faults after → fails ≡ option_map (names_after r name) failed → IfOk r (Gives (λ o. Profiled contents p (Some name) (some_read o)) (Some name) faults after failed fails)
+pub profile_gives : (contents : Contents) (p : Program) (name : List ℕ) (faults after : ℕ) (failed fails : FailedNames) (r : Result (Loaded Profile) NoMemory) →
+    IfOk r (Loads (LoadsProfile contents p name)) → FaultsAfterLoad r faults after → fails ≡ option_map (names_after r name) failed →
+    IfOk r (GivesLoaded (λ o. Profiled contents p (Some name) (some_read o)) (Some name) faults after failed fails)
 profile_gives contents p name faults after failed fails r h f e =
-    gives (LoadsProfile contents p name) (λ o. Profiled contents p (Some name) (some_read o)) (λ o k. NamedProfile name k.text o k.held k.reads) name faults after failed fails r h f e
+    gives (LoadsProfile contents p name) (λ o. Profiled contents p (Some name) (some_read o)) (λ o k. NamedProfile name k.text o k.held k.reads) name faults
+    after failed fails r h f e
 
 -- the least plans, by the profile that was loaded
-module _ (contents : Contents) (p : Program) (options : PlanOptions) (name : Option (List ℕ)) (faults after : ℕ) (failed fails : Names) where
+module _ (contents : Contents) (p : Program) (options : PlanOptions) (name : Option (List ℕ)) (faults after : ℕ) (failed fails : FailedNames) where
   abbrev CountsGive : Loaded (Option Profile) → Type 0
-  CountsGive = Gives (Profiled contents p name) name faults after failed fails
+  CountsGive = GivesLoaded (Profiled contents p name) name faults after failed fails
 
   abbrev LeastGive : Loaded (List Plan) → Type 0
-  LeastGive = Gives (Plans contents p options (Least name)) name faults after failed fails
+  LeastGive = GivesLoaded (Plans contents p options (Least name)) name faults after failed fails
 
   pub least_made : (profile : Option Profile) (plans : List Plan) → CountsGive (Text profile) → MakesPlans p options profile plans → LeastGive (Text plans)
   least_made profile plans g made = (Automatic name profile plans g.0 made, g.1, g.2)
@@ -100,22 +113,22 @@ module _ (Read : Result Program Refusal → Type 0) where
 pub given : {X E : Type 0} (P : X → Type 0) (r : Result X E) (x : X) → r ≡ Ok x → IfOk r P → P x
 given P r x e h = rw e at h
 
-module _ (contents : Contents) (run : Run) (faults one : ℕ) (failed names : Names) where
+module _ (contents : Contents) (run : RunAsked) (faults one : ℕ) (failed names : FailedNames) where
   abbrev pub ProgramGives : Loaded Program → Type 0
-  ProgramGives = Gives (LoadsProgram contents run.program) (Some run.program) faults one failed names
+  ProgramGives = GivesLoaded (LoadsProgram contents run.program) (Some run.program) faults one failed names
 
   pub program_refused : (refusal : Refusal) → ProgramGives (Refused refusal) → LoadsTexts contents run faults one failed names (texts.Refused refusal)
   program_refused refusal g = ProgramRefused refusal (refusal_read (ReadsProgram contents run.program) refusal g.0) g.1 g.2
 
   pub program_failed : ProgramGives Failed → LoadsTexts contents run faults one failed names (texts.Failed role.Program)
-  program_failed g = let same : run.program ≡ g.0 = cc g.1 in ProgramFailed g.2 (g.3 ∙ ap (λ (n : List ℕ). with_name n failed) (sym same))
+  program_failed g = let same : run.program ≡ g.0 = cc g.1 in ProgramFailed g.2 (g.3 ∙ ap (λ (n : List ℕ). with_failed_name n failed) (sym same))
 
-  module _ (two : ℕ) (more : Names) (q : Program) (g : ProgramGives (Text q)) where
+  module _ (two : ℕ) (more : FailedNames) (q : Program) (g : ProgramGives (Text q)) where
     s : Source (ReadsProgram contents run.program) q
     s = source_of (ReadsProgram contents run.program) q g.0
 
     abbrev pub InputGives : Loaded (List ℤ) → Type 0
-    InputGives = Gives (Input contents run.input) run.input one two names more
+    InputGives = GivesLoaded (Input contents run.input) run.input one two names more
 
     pub input_refused : (refusal : Refusal) → InputGives (Refused refusal) → LoadsTexts contents run faults two failed more (texts.Refused refusal)
     input_refused refusal h = InputRefused refusal s.source s.reads h.0 (h.1 ∙ g.1) (h.2 ∙ g.2)
@@ -123,19 +136,24 @@ module _ (contents : Contents) (run : Run) (faults one : ℕ) (failed names : Na
     pub input_failed : InputGives Failed → LoadsTexts contents run faults two failed more (texts.Failed role.Input)
     input_failed h =
         let less : faults < two = subst (λ (k : ℕ). k < two) g.1 h.2 in
-        InputFailed s.source h.0 s.reads h.1 less (h.3 ∙ ap (with_name h.0) g.2)
+        InputFailed s.source h.0 s.reads h.1 less (h.3 ∙ ap (with_failed_name h.0) g.2)
 
-    module _ (three : ℕ) (last : Names) (numbers : List ℤ) (h : InputGives (Text numbers)) where
+    module _ (three : ℕ) (last : FailedNames) (numbers : List ℤ) (h : InputGives (Text numbers)) where
       abbrev pub PlansGive : Loaded (List Plan) → Type 0
-      PlansGive = Gives (Plans contents q run.options run.source) (named_in run.source) two three more last
+      PlansGive = GivesLoaded (Plans contents q run.options run.source) (source_name run.source) two three more last
 
       pub plans_refused : (refusal : Refusal) → PlansGive (Refused refusal) → LoadsTexts contents run faults three failed last (texts.Refused refusal)
-      plans_refused refusal k = PlansRefused refusal s.source numbers s.reads h.0 (subst (λ (x : Program). Plans contents x run.options run.source (Err refusal)) s.is k.0) (k.1 ∙ h.1 ∙ g.1) (k.2 ∙ h.2 ∙ g.2)
+      plans_refused refusal k =
+          PlansRefused refusal s.source numbers s.reads h.0 (subst (λ (x : Program). Plans contents x run.options run.source (Err refusal)) s.is k.0) (k.1 ∙ h.1
+          ∙ g.1) (k.2 ∙ h.2 ∙ g.2)
 
-      pub plans_failed : (which : Role) → which ≡ role_of run.source → PlansGive Failed → LoadsTexts contents run faults three failed last (texts.Failed which)
+      pub plans_failed : (which : Role) → which ≡ plans_role run.source → PlansGive Failed →
+          LoadsTexts contents run faults three failed last (texts.Failed which)
       plans_failed which is k =
           let less : faults < three = subst (λ (n : ℕ). n < three) (h.1 ∙ g.1) k.2 in
-          subst (λ (r : Role). LoadsTexts contents run faults three failed last (texts.Failed r)) (sym is) (PlansFailed s.source numbers k.0 s.reads h.0 k.1 less (k.3 ∙ ap (with_name k.0) (h.2 ∙ g.2)))
+          subst (λ (r : Role). LoadsTexts contents run faults three failed last (texts.Failed r)) (sym is)
+          (PlansFailed s.source numbers k.0 s.reads h.0 k.1 less (k.3 ∙ ap (with_failed_name k.0) (h.2 ∙ g.2)))
 
-      pub all_loaded : (plans : List Plan) → PlansGive (Text plans) → ArePlans q plans → LoadsTexts contents run faults three failed last (texts.Run q numbers plans)
+      pub all_loaded : (plans : List Plan) → PlansGive (Text plans) → ArePlans q plans →
+          LoadsTexts contents run faults three failed last (texts.Run q numbers plans)
       all_loaded plans k fit = LoadedTexts s.source q numbers plans s.is s.reads h.0 k.0 fit (k.1 ∙ h.1 ∙ g.1) (k.2 ∙ h.2 ∙ g.2)

@@ -7,8 +7,8 @@ use Rattle.dp_text.specs.Refused.{IsRefusedAt}
 use Rattle.dp_list.specs.ListText.{IsList, ListLines}
 use Rattle.dp_refusal.specs.declared.refusal.Refusal.{Refusal}
 use Rattle.dp_refusal.specs.declared.refusal.Refusal.TheVariants.{BatchWord, InputWord, Limit, ListLine}
-use Rattle.dp_load.specs.Roles.{Contents, Holds, ReadsInput}
-use Rattle.dp_load.specs.Then.{InTurn}
+use Rattle.dp_load.specs.Roles.{Contents, HoldsText, ReadsInput}
+use Rattle.dp_load.specs.Then.{EachInTurn}
 
 -- The text is read as the list of these names, or refused for the first of the causes that stands: its length, its lines.
 pub data ReadsList (text : List ℕ) : Result (List (List ℕ)) Refusal → Type 0 where
@@ -19,7 +19,7 @@ pub data ReadsList (text : List ℕ) : Result (List (List ℕ)) Refusal → Type
 -- what a list's text under the name is read as
 pub record LoadsList (contents : Contents) (name : List ℕ) (read : Result (List (List ℕ)) Refusal) : Type 0 where
   pub text : List ℕ
-  pub held : Holds contents name text
+  pub held : HoldsText contents name text
   pub reads : ReadsList text read
 
 -- the refusal of an input with its number in the list, where a word of it is refused
@@ -36,8 +36,10 @@ pub record ReadsListed (contents : Contents) (number : ℕ) (name : List ℕ) (r
 -- the inputs of a list's names, in turn, from number 1 on: none where no list is named
 pub data Inputs (contents : Contents) : Option (List ℕ) → Result (List (List ℤ)) Refusal → Type 0 where
   Unlisted : Inputs contents None (Ok [])
-  ListRefused : (name text : List ℕ) (refusal : Refusal) → Holds contents name text → ReadsList text (Err refusal) → Inputs contents (Some name) (Err refusal)
-  Listed : (name text : List ℕ) (names : List (List ℕ)) (read : Result (List (List ℤ)) Refusal) → Holds contents name text → ReadsList text (Ok names) → InTurn (ReadsListed contents) 1 names read →
+  ListRefused : (name text : List ℕ) (refusal : Refusal) → HoldsText contents name text → ReadsList text (Err refusal) →
+      Inputs contents (Some name) (Err refusal)
+  Listed : (name text : List ℕ) (names : List (List ℕ)) (read : Result (List (List ℤ)) Refusal) → HoldsText contents name text → ReadsList text (Ok names) →
+      EachInTurn (ReadsListed contents) 1 names read →
       Inputs contents (Some name) read
 
 -- This is the name of the list's next input, behind others that are read.
@@ -46,6 +48,6 @@ pub record IsNextListed (contents : Contents) (list name : List ℕ) : Type 0 wh
   pub before : List (List ℕ)
   pub behind : List (List ℕ)
   pub inputs : List (List ℤ)
-  pub held : Holds contents list text
+  pub held : HoldsText contents list text
   pub listed : ReadsList text (Ok (before ++ name ∷ behind))
-  pub reads : InTurn (ReadsListed contents) 1 before (Ok inputs)
+  pub reads : EachInTurn (ReadsListed contents) 1 before (Ok inputs)

@@ -5,7 +5,7 @@ use Rattle.dp_tree.specs.declared.Program.{Program as Tree}
 use Rattle.dp_refusal.specs.declared.refusal.Refusal.{Refusal}
 use Rattle.dp_load.specs.declared.load.Loaded.{Loaded}
 use Rattle.dp_load.specs.declared.load.Loaded.TheVariants.{Text, Refused, Failed}
-use Rattle.dp_load.specs.Roles.{Contents, Holds}
+use Rattle.dp_load.specs.Roles.{Contents, HoldsText}
 use Rattle.dp_load.specs.Program.{Reads, Expands}
 use Rattle.dp_plan.specs.declared.Plan.{Plan}
 use Rattle.dp_load.specs.Plans.{ReadsPlans}
@@ -17,7 +17,7 @@ use Rattle.dp_load.specs.Last.{ReadsCheckpoint, ReadsLog}
 -- what a program's text under the name is read as
 pub record ReadsProgram (contents : Contents) (name : List ℕ) (read : Result Tree Refusal) : Type 0 where
   pub text : List ℕ
-  pub held : Holds contents name text
+  pub held : HoldsText contents name text
   pub reads : Reads text read
 
 -- what is run for it, or its refusal
@@ -27,25 +27,25 @@ LoadsProgram contents name = Expands (ReadsProgram contents name)
 -- what a text of plans under the name is read as
 pub record LoadsPlans (contents : Contents) (p : Tree) (name : List ℕ) (read : Result (List Plan) Refusal) : Type 0 where
   pub text : List ℕ
-  pub held : Holds contents name text
+  pub held : HoldsText contents name text
   pub reads : ReadsPlans p text read
 
 -- what a profile's text under the name is read as
 pub record LoadsProfile (contents : Contents) (p : Tree) (name : List ℕ) (read : Result Profile Refusal) : Type 0 where
   pub text : List ℕ
-  pub held : Holds contents name text
+  pub held : HoldsText contents name text
   pub reads : ReadsProfile p text read
 
 -- what a log's text under the name is read as
 pub record LoadsLog (contents : Contents) (name : List ℕ) (read : Result (List ℕ) Refusal) : Type 0 where
   pub text : List ℕ
-  pub held : Holds contents name text
+  pub held : HoldsText contents name text
   pub reads : ReadsLog text read
 
 -- what a checkpoint's text under the name is read as
 pub record LoadsCheckpoint (contents : Contents) (p : Tree) (name : List ℕ) (read : Result Checkpoint Refusal) : Type 0 where
   pub text : List ℕ
-  pub held : Holds contents name text
+  pub held : HoldsText contents name text
   pub reads : ReadsCheckpoint p text read
 
 -- What one text was loaded as: what it stands for, or its refusal; or its reading failed.
@@ -75,7 +75,8 @@ names_after (Ok (Refused refusal)) name names = names
 names_after (Err e) name names = names
 
 -- What a text that may be named was loaded as, with the shelf's faults and failed names before and after.
-abbrev pub Gives : {X : Type 0} → (Result X Refusal → Type 0) → Option (List ℕ) → ℕ → ℕ → Option (List (List ℕ)) → Option (List (List ℕ)) → Loaded X → Type 0
-Gives P name faults after failed fails (Text x) = P (Ok x) × (after ≡ faults) × (fails ≡ failed)
-Gives P name faults after failed fails (Refused refusal) = P (Err refusal) × (after ≡ faults) × (fails ≡ failed)
-Gives P name faults after failed fails Failed = (n : List ℕ) × (name ≡ Some n) × (faults < after) × (fails ≡ option_map (λ names. names ++ n ∷ []) failed)
+abbrev pub GivesLoaded : {X : Type 0} → (Result X Refusal → Type 0) → Option (List ℕ) → ℕ → ℕ → Option (List (List ℕ)) →
+    Option (List (List ℕ)) → Loaded X → Type 0
+GivesLoaded P name faults after failed fails (Text x) = P (Ok x) × (after ≡ faults) × (fails ≡ failed)
+GivesLoaded P name faults after failed fails (Refused refusal) = P (Err refusal) × (after ≡ faults) × (fails ≡ failed)
+GivesLoaded P name faults after failed fails Failed = (n : List ℕ) × (name ≡ Some n) × (faults < after) × (fails ≡ option_map (λ names. names ++ n ∷ []) failed)

@@ -5,9 +5,9 @@ use Rattle.dp_calls.specs.Expand.{expand}
 use Rattle.dp_plan.specs.declared.Plan.{Plan}
 use Rattle.dp_words.specs.Words.{Asked, ToAudit, ToBatch, ToResume}
 use Rattle.dp_refusal.specs.declared.refusal.Refusal.{Refusal}
-use Rattle.dp_load.specs.Last.{Behind, Checkpoint, Last, LastOf, Log}
+use Rattle.dp_load.specs.Last.{LastText, Checkpoint, Last, LastOf, Log}
 use Rattle.dp_load.specs.Lists.{Inputs}
-use Rattle.dp_load.specs.Roles.{Contents, Input, PlansOf, ProgramOf, input_in, plans_in, program_in}
+use Rattle.dp_load.specs.Roles.{Contents, Input, PlansOf, ProgramOf, input_in, plans_asked, program_in}
 use Rattle.dp_load.specs.Then.{Then}
 
 -- the name of the list that stands in an input's place, if there is one
@@ -31,11 +31,13 @@ WithInputs contents asked = Then (WithInput contents asked) (λ (read : Program 
 
 -- .. and the plans of the expanded program
 abbrev pub WithPlans : Contents → Asked → Result (((Program × List ℤ) × List (List ℤ)) × List Plan) Refusal → Type 0
-WithPlans contents asked = Then (WithInputs contents asked) (λ (read : (Program × List ℤ) × List (List ℤ)). PlansOf contents (expand read.0.0) (plans_in asked))
+WithPlans contents asked =
+    Then (WithInputs contents asked) (λ (read : (Program × List ℤ) × List (List ℤ)). PlansOf contents (expand read.0.0) (plans_asked asked))
 
 -- .. and what stands behind them
-abbrev pub ReadsAll : Contents → Asked → Result ((((Program × List ℤ) × List (List ℤ)) × List Plan) × Behind) Refusal → Type 0
-ReadsAll contents asked = Then (WithPlans contents asked) (λ (read : ((Program × List ℤ) × List (List ℤ)) × List Plan). LastOf contents (expand read.0.0.0) (last_in asked))
+abbrev pub ReadsAll : Contents → Asked → Result ((((Program × List ℤ) × List (List ℤ)) × List Plan) × LastText) Refusal → Type 0
+ReadsAll contents asked =
+    Then (WithPlans contents asked) (λ (read : ((Program × List ℤ) × List (List ℤ)) × List Plan). LastOf contents (expand read.0.0.0) (last_in asked))
 
 -- what all of them give
 pub record Given : Type 0 where
@@ -43,8 +45,8 @@ pub record Given : Type 0 where
   pub numbers : List ℤ
   pub listed : List (List ℤ)
   pub plans : List Plan
-  pub last : Behind
+  pub last : LastText
 
 -- the same by their names
-abbrev pub given_by : (((Program × List ℤ) × List (List ℤ)) × List Plan) × Behind → Given
+abbrev pub given_by : (((Program × List ℤ) × List (List ℤ)) × List Plan) × LastText → Given
 given_by read = record { program = read.0.0.0.0; numbers = read.0.0.0.1; listed = read.0.0.1; plans = read.0.1; last = read.1 }

@@ -4,7 +4,7 @@ use Rattle.dp_base.specs.declared.Quantity.TheVariants.{PlanBytes}
 use Rattle.dp_base.specs.declared.limits.TheConstants.{PLAN_BYTES}
 use Rattle.dp_tree.specs.declared.Program.{Program}
 use Rattle.dp_plan.specs.declared.Plan.{Plan}
-use Rattle.dp_plan_text.specs.Refused.{IsRefused, IsBroken, StandsFor}
+use Rattle.dp_plan_text.specs.Refused.{IsRefusedPlans, IsBroken, StandsFor}
 use Rattle.dp_profile.specs.declared.Profile.{Profile}
 use Rattle.dp_cut.specs.Automatic.{AreAutomatic}
 use Rattle.dp_words.specs.declared.task.PlanOptions.{PlanOptions}
@@ -14,8 +14,9 @@ use Rattle.dp_refusal.specs.declared.refusal.Refusal.TheVariants.{Limit, PlanLin
 -- The text is read as these plans of the expanded program, or refused for the first of the causes that stands: its length, its lines, a rule.
 pub data ReadsPlans (p : Program) (text : List ℕ) : Result (List Plan) Refusal → Type 0 where
   TooLong : PLAN_BYTES < length text → ReadsPlans p text (Err (Limit PlanBytes (PLAN_BYTES + 1)))
-  NotPlans : (line : ℕ) → length text ≤ PLAN_BYTES → IsRefused p text line → ReadsPlans p text (Err (PlanLine line))
-  Broken : (rule site : ℕ) → length text ≤ PLAN_BYTES → IsBroken p text (Some (record { rule = rule; site = site })) → ReadsPlans p text (Err (PlanRule rule site))
+  NotPlans : (line : ℕ) → length text ≤ PLAN_BYTES → IsRefusedPlans p text line → ReadsPlans p text (Err (PlanLine line))
+  Broken : (rule site : ℕ) → length text ≤ PLAN_BYTES → IsBroken p text (Some (record { rule = rule; site = site })) →
+      ReadsPlans p text (Err (PlanRule rule site))
   Taken : (plans : List Plan) → length text ≤ PLAN_BYTES → StandsFor p text plans → ReadsPlans p text (Ok plans)
 
 -- the automatic plans of the expanded program, made as these options say, by a profile if there is one: the least of each region

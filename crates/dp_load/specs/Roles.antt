@@ -19,8 +19,8 @@ abbrev pub Contents : Type 0
 Contents = Option (List ℕ → Option (List ℕ))
 
 -- the shelf holds the text under the name, so far as it tells
-abbrev pub Holds : Contents → List ℕ → List ℕ → Type 0
-Holds contents name text = IfSome contents (λ held. held name ≡ Some text)
+abbrev pub HoldsText : Contents → List ℕ → List ℕ → Type 0
+HoldsText contents name text = IfSome contents (λ held. held name ≡ Some text)
 
 -- ---- the program
 
@@ -42,7 +42,7 @@ program_in (ToBatch run list) = Some run.program
 -- what the program's text is read as: that under the name, or the made one
 pub data ProgramOf (contents : Contents) : Option (List ℕ) → Result Program Refusal → Type 0 where
   MadeProgram : (read : Result Program Refusal) → Reads made_text read → ProgramOf contents None read
-  NamedProgram : (name text : List ℕ) (read : Result Program Refusal) → Holds contents name text → Reads text read → ProgramOf contents (Some name) read
+  NamedProgram : (name text : List ℕ) (read : Result Program Refusal) → HoldsText contents name text → Reads text read → ProgramOf contents (Some name) read
 
 -- ---- the input
 
@@ -64,7 +64,7 @@ input_in (ToBatch run list) = None
 -- what an input's text under the name is read as
 pub record ReadsInput (contents : Contents) (name : List ℕ) (read : Result (List ℤ) Refusal) : Type 0 where
   pub text : List ℕ
-  pub held : Holds contents name text
+  pub held : HoldsText contents name text
   pub reads : read ≡ input_of text
 
 -- the input: no numbers where none is named, and else what the text under the name gives
@@ -75,24 +75,24 @@ pub data Input (contents : Contents) : Option (List ℕ) → Result (List ℤ) R
 -- ---- the plans
 
 -- where plans come from and how least ones are made, if there are to be plans
-abbrev pub plans_in : Asked → Option (Source × PlanOptions)
-plans_in (ToRun run) = Some (run.source, run.options)
-plans_in (ToPlan planning) = Some (Least planning.profile, planning.options)
-plans_in (ToExplain planning) = Some (Least planning.profile, planning.options)
-plans_in (ToList program) = None
-plans_in (ToTree program) = None
-plans_in (ToProfile profiling) = None
-plans_in (ToMake made) = Some (Least None, made.options)
-plans_in (ToLog run) = Some (run.source, run.options)
-plans_in (ToAudit run log) = Some (run.source, run.options)
-plans_in (ToSave run place) = Some (run.source, run.options)
-plans_in (ToResume run checkpoint) = Some (run.source, run.options)
-plans_in (ToBatch run list) = Some (run.source, run.options)
+abbrev pub plans_asked : Asked → Option (Source × PlanOptions)
+plans_asked (ToRun run) = Some (run.source, run.options)
+plans_asked (ToPlan planning) = Some (Least planning.profile, planning.options)
+plans_asked (ToExplain planning) = Some (Least planning.profile, planning.options)
+plans_asked (ToList program) = None
+plans_asked (ToTree program) = None
+plans_asked (ToProfile profiling) = None
+plans_asked (ToMake made) = Some (Least None, made.options)
+plans_asked (ToLog run) = Some (run.source, run.options)
+plans_asked (ToAudit run log) = Some (run.source, run.options)
+plans_asked (ToSave run place) = Some (run.source, run.options)
+plans_asked (ToResume run checkpoint) = Some (run.source, run.options)
+plans_asked (ToBatch run list) = Some (run.source, run.options)
 
 -- the name of the text that plans rest on, if there is one
-abbrev pub named_in : Source → Option (List ℕ)
-named_in (source.Named name) = Some name
-named_in (Least profile) = profile
+abbrev pub source_name : Source → Option (List ℕ)
+source_name (source.Named name) = Some name
+source_name (Least profile) = profile
 
 -- a profile, if there is one
 abbrev pub some_read : Result Profile Refusal → Result (Option Profile) Refusal
@@ -102,15 +102,19 @@ some_read (Err refusal) = Err refusal
 -- the profile of least plans: none where none is named, and else what the text under the name gives
 pub data Profiled (contents : Contents) (p : Program) : Option (List ℕ) → Result (Option Profile) Refusal → Type 0 where
   NotNamed : Profiled contents p None (Ok None)
-  NamedProfile : (name text : List ℕ) (read : Result Profile Refusal) → Holds contents name text → ReadsProfile p text read → Profiled contents p (Some name) (some_read read)
+  NamedProfile : (name text : List ℕ) (read : Result Profile Refusal) → HoldsText contents name text → ReadsProfile p text read →
+      Profiled contents p (Some name) (some_read read)
 
 -- the plans of this expanded program: the least ones, by their profile, or what the text under the name gives
 pub data Plans (contents : Contents) (p : Program) (options : PlanOptions) : Source → Result (List Plan) Refusal → Type 0 where
-  Automatic : (name : Option (List ℕ)) (profile : Option Profile) (plans : List Plan) → Profiled contents p name (Ok profile) → MakesPlans p options profile plans → Plans contents p options (Least name) (Ok plans)
+  Automatic : (name : Option (List ℕ)) (profile : Option Profile) (plans : List Plan) → Profiled contents p name (Ok profile) →
+      MakesPlans p options profile plans → Plans contents p options (Least name) (Ok plans)
   ProfileRefused : (name : Option (List ℕ)) (refusal : Refusal) → Profiled contents p name (Err refusal) → Plans contents p options (Least name) (Err refusal)
-  Planned : (name text : List ℕ) (read : Result (List Plan) Refusal) → Holds contents name text → ReadsPlans p text read → Plans contents p options (source.Named name) read
+  Planned : (name text : List ℕ) (read : Result (List Plan) Refusal) → HoldsText contents name text → ReadsPlans p text read →
+      Plans contents p options (source.Named name) read
 
 -- none where there are to be none
 pub data PlansOf (contents : Contents) (p : Program) : Option (Source × PlanOptions) → Result (List Plan) Refusal → Type 0 where
   NoPlans : PlansOf contents p None (Ok [])
-  SomePlans : (source : Source) (options : PlanOptions) (read : Result (List Plan) Refusal) → Plans contents p options source read → PlansOf contents p (Some (source, options)) read
+  SomePlans : (source : Source) (options : PlanOptions) (read : Result (List Plan) Refusal) → Plans contents p options source read →
+      PlansOf contents p (Some (source, options)) read

@@ -8,8 +8,10 @@ pub data Then {X Y E : Type 0} (First : Result X E → Type 0) (Next : X → Res
   NextRefused : (x : X) (refusal : E) → First (Ok x) → Next x (Err refusal) → Then First Next (Err refusal)
 
 -- one for each name, with its number
-pub data InTurn {N X E : Type 0} (Reads : ℕ → N → Result X E → Type 0) : ℕ → List N → Result (List X) E → Type 0 where
-  NoneLeft : (number : ℕ) → InTurn Reads number [] (Ok [])
-  OneMore : (number : ℕ) (name : N) (rest : List N) (x : X) (xs : List X) → Reads number name (Ok x) → InTurn Reads (suc number) rest (Ok xs) → InTurn Reads number (name ∷ rest) (Ok (x ∷ xs))
-  OneRefused : (number : ℕ) (name : N) (rest : List N) (refusal : E) → Reads number name (Err refusal) → InTurn Reads number (name ∷ rest) (Err refusal)
-  LaterRefused : (number : ℕ) (name : N) (rest : List N) (x : X) (refusal : E) → Reads number name (Ok x) → InTurn Reads (suc number) rest (Err refusal) → InTurn Reads number (name ∷ rest) (Err refusal)
+pub data EachInTurn {N X E : Type 0} (Reads : ℕ → N → Result X E → Type 0) : ℕ → List N → Result (List X) E → Type 0 where
+  NoneLeft : (number : ℕ) → EachInTurn Reads number [] (Ok [])
+  OneMore : (number : ℕ) (name : N) (rest : List N) (x : X) (xs : List X) → Reads number name (Ok x) → EachInTurn Reads (suc number) rest (Ok xs) →
+      EachInTurn Reads number (name ∷ rest) (Ok (x ∷ xs))
+  OneRefused : (number : ℕ) (name : N) (rest : List N) (refusal : E) → Reads number name (Err refusal) → EachInTurn Reads number (name ∷ rest) (Err refusal)
+  LaterRefused : (number : ℕ) (name : N) (rest : List N) (x : X) (refusal : E) → Reads number name (Ok x) → EachInTurn Reads (suc number) rest (Err refusal) →
+      EachInTurn Reads number (name ∷ rest) (Err refusal)

@@ -41,7 +41,8 @@ pub enum BatchTexts {
 pub fn load_inputs<S: Shelf>(alloc: Global, shelf: &mut S, name: &str) -> Result<Listed, NoMemory>
     requires { S.faults shelf.old < 2 ^ 64 - 1 }
     ensures contents { S.contents shelf.new ≡ S.contents shelf.old }
-    ensures loads { IfOk result (LoadsInputs (S.contents shelf.old) name.now (S.faults shelf.old) (S.faults shelf.new) (S.failed_names shelf.old) (S.failed_names shelf.new)) }
+    ensures loads { IfOk result (LoadsInputs (S.contents shelf.old) name.now (S.faults shelf.old) (S.faults shelf.new) (S.failed_names shelf.old)
+        (S.failed_names shelf.new)) }
     ensures err { OnErr result ((S.faults shelf.new ≡ S.faults shelf.old) × (S.failed_names shelf.new ≡ S.failed_names shelf.old)) }
 {
     match load_list(alloc, shelf, name)? {
@@ -61,7 +62,8 @@ pub fn load_batch<S: Shelf>(
     requires options { OptionsWithin run.options }
     requires shelf { S.faults shelf.old < 2 ^ 64 - 1 }
     ensures contents { S.contents shelf.new ≡ S.contents shelf.old }
-    ensures loads { IfOk result (LoadsBatch (S.contents shelf.old) (shown run.entry) list.now (S.faults shelf.old) (S.faults shelf.new) (S.failed_names shelf.old) (S.failed_names shelf.new)) }
+    ensures loads { IfOk result (LoadsBatch (S.contents shelf.old) (shown run.entry) list.now (S.faults shelf.old) (S.faults shelf.new)
+        (S.failed_names shelf.old) (S.failed_names shelf.new)) }
     ensures err { OnErr result ((S.faults shelf.new ≡ S.faults shelf.old) × (S.failed_names shelf.new ≡ S.failed_names shelf.old)) }
 {
     let program = match load_program(alloc, shelf, run.program)? {

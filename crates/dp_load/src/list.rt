@@ -65,7 +65,8 @@ pub fn load_each<S: Shelf>(
     requires few { length names.now ≤ 64 }
     requires texts { All IsUtf8 names.now }
     ensures contents { S.contents shelf.new ≡ S.contents shelf.old }
-    ensures loads { IfOk result (LoadsEach (S.contents shelf.old) names.now (S.faults shelf.old) (S.faults shelf.new) (S.failed_names shelf.old) (S.failed_names shelf.new)) }
+    ensures loads { IfOk result (LoadsEach (S.contents shelf.old) names.now (S.faults shelf.old) (S.faults shelf.new) (S.failed_names shelf.old)
+        (S.failed_names shelf.new)) }
     ensures err { OnErr result ((S.faults shelf.new ≡ S.faults shelf.old) × (S.failed_names shelf.new ≡ S.failed_names shelf.old)) }
 {
     let mut inputs = Row::new(alloc);

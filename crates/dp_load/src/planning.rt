@@ -6,7 +6,7 @@ ghost use Rattle.dp_plan.specs.GivenPlans.{ArePlans};
 ghost use Rattle.dp_words.specs.Values.{OptionsWithin};
 ghost use Rattle.dp_words.specs.Run.{Least};
 ghost use Rattle.dp_load.specs.Roles.{Plans, Profiled};
-ghost use Rattle.dp_load.specs.Loading.{Gives, IfText};
+ghost use Rattle.dp_load.specs.Loading.{GivesLoaded, IfText};
 ghost use Rattle.dp_load.specs.Plans.{MakesPlans};
 
 use crate::load::{Loaded, load_profile};
@@ -52,7 +52,8 @@ pub fn load_least<S: Shelf>(
     requires inlined { IsInlined program.now }
     requires options { OptionsWithin options }
     ensures contents { S.contents shelf.new ≡ S.contents shelf.old }
-    ensures gives { IfOk result (Gives (Plans (S.contents shelf.old) program.now options (Least (option_map (λ n. n.now) name.entry))) (option_map (λ n. n.now) name.entry) (S.faults shelf.old) (S.faults shelf.new) (S.failed_names shelf.old) (S.failed_names shelf.new)) }
+    ensures gives { IfOk result (GivesLoaded (Plans (S.contents shelf.old) program.now options (Least (option_map (λ n. n.now) name.entry)))
+        (option_map (λ n. n.now) name.entry) (S.faults shelf.old) (S.faults shelf.new) (S.failed_names shelf.old) (S.failed_names shelf.new)) }
     ensures fit { IfOk result (IfText (ArePlans program.now)) }
     ensures err { OnErr result ((S.faults shelf.new ≡ S.faults shelf.old) × (S.failed_names shelf.new ≡ S.failed_names shelf.old)) }
 {
@@ -76,7 +77,8 @@ pub fn load_counts<S: Shelf>(
     requires shelf { S.faults shelf.old < 2 ^ 64 - 1 }
     requires inlined { IsInlined program.now }
     ensures contents { S.contents shelf.new ≡ S.contents shelf.old }
-    ensures gives { IfOk result (Gives (Profiled (S.contents shelf.old) program.now (option_map (λ n. n.now) name.entry)) (option_map (λ n. n.now) name.entry) (S.faults shelf.old) (S.faults shelf.new) (S.failed_names shelf.old) (S.failed_names shelf.new)) }
+    ensures gives { IfOk result (GivesLoaded (Profiled (S.contents shelf.old) program.now (option_map (λ n. n.now) name.entry))
+        (option_map (λ n. n.now) name.entry) (S.faults shelf.old) (S.faults shelf.new) (S.failed_names shelf.old) (S.failed_names shelf.new)) }
     ensures err { OnErr result ((S.faults shelf.new ≡ S.faults shelf.old) × (S.failed_names shelf.new ≡ S.failed_names shelf.old)) }
 {
     match name {
@@ -95,7 +97,8 @@ fn load_named_counts<S: Shelf>(
     requires shelf { S.faults shelf.old < 2 ^ 64 - 1 }
     requires inlined { IsInlined program.now }
     ensures contents { S.contents shelf.new ≡ S.contents shelf.old }
-    ensures gives { IfOk result (Gives (Profiled (S.contents shelf.old) program.now (Some name.now)) (Some name.now) (S.faults shelf.old) (S.faults shelf.new) (S.failed_names shelf.old) (S.failed_names shelf.new)) }
+    ensures gives { IfOk result (GivesLoaded (Profiled (S.contents shelf.old) program.now (Some name.now)) (Some name.now) (S.faults shelf.old)
+        (S.faults shelf.new) (S.failed_names shelf.old) (S.failed_names shelf.new)) }
     ensures err { OnErr result ((S.faults shelf.new ≡ S.faults shelf.old) × (S.failed_names shelf.new ≡ S.failed_names shelf.old)) }
 {
     match load_profile(alloc, shelf, name, program)? {

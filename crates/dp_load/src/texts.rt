@@ -5,8 +5,8 @@ ghost use Rattle.dp_tree.specs.Inlined.{IsInlined};
 ghost use Rattle.dp_plan.specs.GivenPlans.{ArePlans};
 ghost use Rattle.dp_words.specs.Values.{OptionsWithin};
 ghost use Rattle.dp_words.specs.Run.{shown, shown_source};
-ghost use Rattle.dp_load.specs.Roles.{Input, Plans, named_in};
-ghost use Rattle.dp_load.specs.Loading.{Gives, IfText};
+ghost use Rattle.dp_load.specs.Roles.{Input, Plans, source_name};
+ghost use Rattle.dp_load.specs.Loading.{GivesLoaded, IfText};
 ghost use Rattle.dp_load.specs.Texts.{LoadsTexts};
 
 use crate::load::{Loaded, load_input, load_plans, load_program};
@@ -35,7 +35,8 @@ pub fn load_texts<S: Shelf>(alloc: Global, run: RunWords, shelf: &mut S) -> Resu
     requires options { OptionsWithin run.options }
     requires shelf { S.faults shelf.old < 2 ^ 64 - 1 }
     ensures contents { S.contents shelf.new ≡ S.contents shelf.old }
-    ensures loads { IfOk result (LoadsTexts (S.contents shelf.old) (shown run.entry) (S.faults shelf.old) (S.faults shelf.new) (S.failed_names shelf.old) (S.failed_names shelf.new)) }
+    ensures loads { IfOk result (LoadsTexts (S.contents shelf.old) (shown run.entry) (S.faults shelf.old) (S.faults shelf.new) (S.failed_names shelf.old)
+        (S.failed_names shelf.new)) }
     ensures err { OnErr result ((S.faults shelf.new ≡ S.faults shelf.old) × (S.failed_names shelf.new ≡ S.failed_names shelf.old)) }
 {
     let program = match load_program(alloc, shelf, run.program)? {
@@ -63,7 +64,8 @@ pub fn load_words<S: Shelf>(
 ) -> Result<Loaded<Row<i64>>, NoMemory>
     requires { S.faults shelf.old < 2 ^ 64 - 1 }
     ensures contents { S.contents shelf.new ≡ S.contents shelf.old }
-    ensures gives { IfOk result (Gives (Input (S.contents shelf.old) (option_map (λ n. n.now) name.entry)) (option_map (λ n. n.now) name.entry) (S.faults shelf.old) (S.faults shelf.new) (S.failed_names shelf.old) (S.failed_names shelf.new)) }
+    ensures gives { IfOk result (GivesLoaded (Input (S.contents shelf.old) (option_map (λ n. n.now) name.entry)) (option_map (λ n. n.now) name.entry)
+        (S.faults shelf.old) (S.faults shelf.new) (S.failed_names shelf.old) (S.failed_names shelf.new)) }
     ensures err { OnErr result ((S.faults shelf.new ≡ S.faults shelf.old) × (S.failed_names shelf.new ≡ S.failed_names shelf.old)) }
 {
     match name {
@@ -84,7 +86,8 @@ pub fn load_given<S: Shelf>(
     requires inlined { IsInlined program.now }
     requires options { OptionsWithin options }
     ensures contents { S.contents shelf.new ≡ S.contents shelf.old }
-    ensures gives { IfOk result (Gives (Plans (S.contents shelf.old) program.now options (shown_source source.entry)) (named_in (shown_source source.entry)) (S.faults shelf.old) (S.faults shelf.new) (S.failed_names shelf.old) (S.failed_names shelf.new)) }
+    ensures gives { IfOk result (GivesLoaded (Plans (S.contents shelf.old) program.now options (shown_source source.entry))
+        (source_name (shown_source source.entry)) (S.faults shelf.old) (S.faults shelf.new) (S.failed_names shelf.old) (S.failed_names shelf.new)) }
     ensures fit { IfOk result (IfText (ArePlans program.now)) }
     ensures err { OnErr result ((S.faults shelf.new ≡ S.faults shelf.old) × (S.failed_names shelf.new ≡ S.failed_names shelf.old)) }
 {

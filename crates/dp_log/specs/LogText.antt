@@ -17,8 +17,8 @@ use Rattle.dp_report.specs.EndText.{end_line}
 abbrev pub set_line : SetOf → List ℕ
 set_line set = line (labelled (codes "set ") set.cell.0 ++ labelled_signed (codes " ") set.value)
 
-abbrev pub print_line : ℤ → List ℕ
-print_line z = line (labelled_signed (codes "print ") z)
+abbrev pub logged_print : ℤ → List ℕ
+logged_print z = line (labelled_signed (codes "print ") z)
 
 -- the first line of an iteration: it was executed again, or committed
 abbrev pub iteration_line : ℕ → Bool → List ℕ
@@ -26,7 +26,7 @@ iteration_line i again = line (labelled (if again then codes "again " else codes
 
 -- the lines of an iteration
 abbrev pub group_bytes : ℕ → Bool → List SetOf → List ℤ → List ℕ
-group_bytes i again sets printed = iteration_line i again ++ flat_map set_line sets ++ flat_map print_line printed
+group_bytes i again sets printed = iteration_line i again ++ flat_map set_line sets ++ flat_map logged_print printed
 
 -- .. as the run has it
 abbrev pub iteration_bytes : Program → Plan → Run → ℕ → List ℕ
@@ -51,16 +51,17 @@ was_left run r = is_closing run r (begun_count run r - 1)
 abbrev pub region_bytes : Program → Plan → Run → List ℕ
 region_bytes p plan run =
     if begun_count run plan.region == 0 then []
-    else region_line plan.region ++ iterations_bytes p plan run 0 (begun_count run plan.region) ++ (if was_left run plan.region then closed_line plan.region else [])
+    else region_line plan.region ++ iterations_bytes p plan run 0 (begun_count run plan.region)
+    ++ (if was_left run plan.region then closed_line plan.region else [])
 
 -- the first line of a log
 abbrev pub first_line : List ℕ
 first_line = line (codes "log 1")
 
 -- the lines of these plans' regions
-abbrev pub regions_bytes : Program → List Plan → Run → List ℕ
-regions_bytes p plans run = flat_map (λ plan. region_bytes p plan run) plans
+abbrev pub logged_regions : Program → List Plan → Run → List ℕ
+logged_regions p plans run = flat_map (λ plan. region_bytes p plan run) plans
 
 -- the whole log of a run of a program without calls, under a plan for each of its regions
 abbrev pub log_bytes : Program → List Plan → Run → List ℕ
-log_bytes p plans run = first_line ++ regions_bytes p plans run ++ end_line run.end
+log_bytes p plans run = first_line ++ logged_regions p plans run ++ end_line run.end

@@ -3,7 +3,7 @@ ghost use Rattle.std.specs.Prelude.{◌≡◌, ◌++◌, OnOk};
 ghost use Rattle.std.specs.Fmt.{signed_decimal};
 ghost use Rattle.std.specs.List.{flat_map};
 ghost use Rattle.dp_report.specs.Lines.{labelled_signed};
-ghost use Rattle.dp_log.specs.LogText.{closed_line, first_line, group_bytes, iteration_line, print_line, region_line, set_line};
+ghost use Rattle.dp_log.specs.LogText.{closed_line, first_line, group_bytes, iteration_line, logged_print, region_line, set_line};
 
 use crate::SetOf;
 use dp_base::{NoMemory, Row};
@@ -77,7 +77,7 @@ fn put_set(out: &mut Row<u8>, set: SetOf) -> Result<(), NoMemory>
 }
 
 fn put_prints(out: &mut Row<u8>, prints: &[i64]) -> Result<(), NoMemory>
-    ensures { OnOk result (out.new ≡ out.old ++ flat_map print_line prints.now) }
+    ensures { OnOk result (out.new ≡ out.old ++ flat_map logged_print prints.now) }
 {
     for value in prints {
         put_print(out, *value)?;
@@ -86,7 +86,7 @@ fn put_prints(out: &mut Row<u8>, prints: &[i64]) -> Result<(), NoMemory>
 }
 
 fn put_print(out: &mut Row<u8>, value: i64) -> Result<(), NoMemory>
-    ensures { OnOk result (out.new ≡ out.old ++ print_line value) }
+    ensures { OnOk result (out.new ≡ out.old ++ logged_print value) }
 {
     put_labelled_signed(out, b"print ", value)?;
     out.push(b'\n')

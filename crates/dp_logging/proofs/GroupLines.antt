@@ -1,5 +1,6 @@
 -- The lines of the iteration that was given.
-use Rattle.std.proofs.Common.{◌≡◌, refl, sym, ap, ◌∙◌, subst, ℕ, suc, ◌+◌, ◌<◌, Bool, true, false, List, [], ◌++◌, append-nil, append_assoc, ℤ, Some, None, ltb-true, arith}
+use Rattle.std.proofs.Common.{◌≡◌, refl, sym, ap, ◌∙◌, subst, ℕ, suc, ◌+◌, ◌<◌, Bool, true, false, List, [], ◌++◌, append-nil, append_assoc, ℤ, Some, None}
+use Rattle.std.proofs.Common.{ltb-true, arith}
 use Rattle.std.proofs.lemmas.Bool.{false_from_ne_true}
 use Rattle.dp_tree.specs.declared.Program.{Program}
 use Rattle.dp_tree.specs.Trace.{Run, prints}
@@ -19,27 +20,31 @@ use Rattle.dp_epoch.proofs.Ending.{begun_next}
 use Rattle.dp_epoch.proofs.Here.{closes_once, rest_fuel, starts_here}
 use Rattle.dp_audit.specs.declared.group.Group.{Group}
 use Rattle.dp_audit.specs.declared.runner.Runner.{Runner}
-use Rattle.dp_audit.specs.Runs.{Stands}
-use Rattle.dp_audit.specs.Groups.{Gives, StandsBehind, is_left}
+use Rattle.dp_audit.specs.Runs.{RegionStands}
+use Rattle.dp_audit.specs.Groups.{GivesGroup, StandsBehind, is_left}
 use Rattle.dp_audit.proofs.IterationMade.{begun_where}
 use Rattle.dp_logging.specs.Lines.{first_lines, group_lines, last_lines, left_lines, left_then, region_end_of, rest_lines}
 use Rattle.dp_logging.specs.Logged.{Logged}
 use Rattle.dp_logging.proofs.LineLemmas.{last_left, left_next, none_left}
 
-module _ (p : Program) (plan : Plan) (input : List ℤ) (first : MachineState) (n : ℕ) (r : Runner) (s : Stands p plan input first n r) (next : Runner) where
+module _ (p : Program) (plan : Plan) (input : List ℤ) (first : MachineState) (n : ℕ) (r : Runner) (s : RegionStands p plan input first n r)
+    (next : Runner) where
   abbrev run : Run
   run = region_run first
 
   behind_by : (e : IterEnd) → StandsBehind p plan input first (n + 1) next e → Logged p plan input first n next (region_end_of e)
-  behind_by iter_end.Next b = let one : n + 1 ≡ suc n = omega arith in subst (λ (i : ℕ). Stands p plan input first i next) one b
+  behind_by iter_end.Next b = let one : n + 1 ≡ suc n = omega arith in subst (λ (i : ℕ). RegionStands p plan input first i next) one b
   behind_by iter_end.Closed b = subst (λ (x : Program). RegionRan x plan first next.ledger.committed.machine region_end.Closed) s.kept.program_is b.done.ran
-  behind_by (iter_end.Fault fault) b = subst (λ (x : Program). RegionRan x plan first next.ledger.committed.machine (region_end.Fault fault)) s.kept.program_is b.done.ran
+  behind_by (iter_end.Fault fault) b =
+      subst (λ (x : Program). RegionRan x plan first next.ledger.committed.machine (region_end.Fault fault)) s.kept.program_is b.done.ran
   behind_by iter_end.Fuel b = subst (λ (x : Program). RegionRan x plan first next.ledger.committed.machine region_end.Fuel) s.kept.program_is b.done.ran
   behind_by iter_end.Going b = absurd b
 
-  tail_by : (e : IterEnd) → is_closing run plan.region n ≡ is_left e → StandsBehind p plan input first (n + 1) next e → rest_lines p plan run (suc n) ≡ last_lines plan.region e ++ left_then p plan run n (region_end_of e)
+  tail_by : (e : IterEnd) → is_closing run plan.region n ≡ is_left e → StandsBehind p plan input first (n + 1) next e →
+      rest_lines p plan run (suc n) ≡ last_lines plan.region e ++ left_then p plan run n (region_end_of e)
   tail_by iter_end.Next closes b = refl
-  tail_by iter_end.Closed closes b = last_left p plan run n iter_end.Closed closes (omega (arith, b.begun)) ∙ sym (append-nil (last_lines plan.region iter_end.Closed))
+  tail_by iter_end.Closed closes b =
+      last_left p plan run n iter_end.Closed closes (omega (arith, b.begun)) ∙ sym (append-nil (last_lines plan.region iter_end.Closed))
   tail_by (iter_end.Fault fault) closes b = last_left p plan run n (iter_end.Fault fault) closes (omega (arith, b.begun))
   tail_by iter_end.Fuel closes b = last_left p plan run n iter_end.Fuel closes (omega (arith, b.begun))
   tail_by iter_end.Going closes b = absurd b
@@ -52,7 +57,7 @@ module _ (p : Program) (plan : Plan) (input : List ℤ) (first : MachineState) (
   next_by iter_end.Going b none = absurd b
 
   -- an iteration was given
-  module _ (group : Group) (given : Gives p plan input first n next (Some group)) where
+  module _ (group : Group) (given : GivesGroup p plan input first n next (Some group)) where
     pub group_logged : Logged p plan input first n next (region_end_of group.end)
     group_logged = behind_by group.end given.1
 
@@ -83,18 +88,21 @@ module _ (p : Program) (plan : Plan) (input : List ℤ) (first : MachineState) (
         left_next p plan run n begun
         ∙ ap (λ (i : ℕ). first_lines plan.region i ++ (iteration_bytes p plan run n ++ rest_lines p plan run (suc n))) (sym given.0.number)
         ∙ ap (λ (x : List ℕ). first_lines plan.region group.iteration ++ (x ++ rest_lines p plan run (suc n))) bytes_are
-        ∙ ap (λ (x : List ℕ). first_lines plan.region group.iteration ++ (group_bytes group.iteration group.again group.sets group.prints ++ x)) (tail_by group.end given.0.left given.1)
+        ∙ ap (λ (x : List ℕ). first_lines plan.region group.iteration ++ (group_bytes group.iteration group.again group.sets group.prints ++ x))
+        (tail_by group.end given.0.left given.1)
         ∙ ap (λ (x : List ℕ). head ++ x) (sym (append_assoc body tail left)) ∙ sym (append_assoc head (body ++ tail) left)
         ∙ ap (λ (x : List ℕ). x ++ left) (sym (append_assoc head body tail))
 
   -- the fuel is spent before its condition
-  module _ (given : Gives p plan input first n next None) where
+  module _ (given : GivesGroup p plan input first n next None) where
     pub none_logged : Logged p plan input first n next (Some region_end.Fuel)
     none_logged = subst (λ (x : Program). RegionRan x plan first next.ledger.committed.machine region_end.Fuel) s.kept.program_is given.1.done.ran
 
     not_closed : (i : ℕ) → n ≡ suc i → is_closing (region_run first) plan.region i ≡ false
     not_closed i e = false_from_ne_true (is_closing run plan.region i) (λ (t : is_closing run plan.region i ≡ true).
-        let here : start run plan.region n ≡ Some (steps_of_first run plan.region n) = subst (λ (k : ℕ). start run plan.region k ≡ Some (steps_of_first run plan.region k)) s.count (starts_here plan first r.ledger.committed r.ledger.account s.progress) in
+        let here : start run plan.region n ≡ Some (steps_of_first run plan.region n) = subst
+        (λ (k : ℕ). start run plan.region k ≡ Some (steps_of_first run plan.region k)) s.count
+        (starts_here plan first r.ledger.committed r.ledger.account s.progress) in
         let there = earlier_start (starts run plan.region) n i (steps_of_first run plan.region n) here (omega (arith, e)) in
         let none : start run plan.region (i + 1) ≡ None = closes_once plan first s.progress.start i there.0 there.1 t in
         let at : n ≡ i + 1 = omega (arith, e) in

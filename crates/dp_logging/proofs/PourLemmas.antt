@@ -4,7 +4,7 @@ use Rattle.std.specs.Result.{IsErr}
 use Rattle.dp_edge.specs.Sink.{appended}
 use Rattle.dp_edge.specs.Writing.{WritesFront}
 use Rattle.dp_edge.proofs.FrontLemmas.{appended-append, appended-nil, front_behind, front_more}
-use Rattle.dp_logging.specs.Pouring.{Pours, Streams}
+use Rattle.dp_logging.specs.Pouring.{Pours, StreamsText}
 
 -- first these, then those
 pub pours_on : (a b d : List ℕ) (told mid tells : Option (List ℕ)) → Pours a b told mid → Pours b d mid tells → Pours a d told tells
@@ -19,7 +19,8 @@ pours_front a b told mid tells e w = front_behind a e.written b told mid tells e
 
 -- with more behind it
 pub pours_ahead : (a b more : List ℕ) (told tells : Option (List ℕ)) → Pours a b told tells → Pours (a ++ more) (b ++ more) told tells
-pours_ahead a b more told tells e = record { written = e.written; splits = ap (λ (x : List ℕ). x ++ more) e.splits ∙ append_assoc e.written b more; sink = e.sink }
+pours_ahead a b more told tells e =
+    record { written = e.written; splits = ap (λ (x : List ℕ). x ++ more) e.splits ∙ append_assoc e.written b more; sink = e.sink }
 
 -- what was written is a front, where it stops now
 pub pours_stopped : (a b : List ℕ) (told tells : Option (List ℕ)) → Pours a b told tells → WritesFront a told tells
@@ -29,34 +30,30 @@ pours_stopped a b told tells e = record { front = e.written; rest = b; splits = 
 pub pours_nothing : (a b : List ℕ) (told tells : Option (List ℕ)) → a ≡ b → tells ≡ told → Pours a b told tells
 pours_nothing a b told tells same is = record { written = []; splits = same; sink = is ∙ sym (appended-nil told) }
 
--- all was written
-pub pours_all : (a b : List ℕ) (told tells : Option (List ℕ)) → b ≡ [] → tells ≡ appended a told → Pours a b told tells
-pours_all a b told tells none is = record { written = a; splits = sym (ap (λ (x : List ℕ). a ++ x) none ∙ append-nil a); sink = is }
-
 pub poured_all : (a b : List ℕ) (told tells : Option (List ℕ)) → b ≡ [] → Pours a b told tells → tells ≡ appended a told
-poured_all a b told tells none e = e.sink ∙ ap (λ (x : List ℕ). appended x told) (sym (e.splits ∙ ap (λ (x : List ℕ). e.written ++ x) none ∙ append-nil e.written))
+poured_all a b told tells none e =
+    e.sink ∙ ap (λ (x : List ℕ). appended x told) (sym (e.splits ∙ ap (λ (x : List ℕ). e.written ++ x) none ∙ append-nil e.written))
 
 -- Something stopped, and this was written.
-pub stopped : {X E : Type 0} (r : Result X E) (text : List ℕ) (left : X → List ℕ) (told tells : Option (List ℕ)) → IsErr r → WritesFront text told tells → Streams r text left told tells
+pub stopped : {X E : Type 0} (r : Result X E) (text : List ℕ) (left : X → List ℕ) (told tells : Option (List ℕ)) → IsErr r → WritesFront text told tells →
+    StreamsText r text left told tells
 stopped (Ok x) text left told tells h w = absurd (cc)
 stopped (Err stop) text left told tells h w = w
-
--- The rest of the text is to be written.
-pub streams_on : {X E : Type 0} (r : Result X E) (text rest : List ℕ) (left : X → List ℕ) (told mid tells : Option (List ℕ)) → Pours text rest told mid → Streams r rest left mid tells → Streams r text left told tells
-streams_on (Ok x) text rest left told mid tells e s = pours_on text rest (left x) told mid tells e s
-streams_on (Err stop) text rest left told mid tells e s = pours_front text rest told mid tells e s
 
 -- ---- a part of what is left is written
 
 module _ (first out here rest : List ℕ) (told mid tells : Option (List ℕ)) (e : Pours first (out ++ (here ++ rest)) told mid) where
   pub part_front : WritesFront (out ++ here) mid tells → WritesFront first told tells
-  part_front w = pours_front first (out ++ (here ++ rest)) told mid tells e (subst (λ (x : List ℕ). WritesFront x mid tells) (append_assoc out here rest) (front_more (out ++ here) rest mid tells w))
+  part_front w = pours_front first (out ++ (here ++ rest)) told mid tells e (subst (λ (x : List ℕ). WritesFront x mid tells) (append_assoc out here rest)
+      (front_more (out ++ here) rest mid tells w))
 
   pub part_pours : (more : List ℕ) → Pours (out ++ here) more mid tells → Pours first (more ++ rest) told tells
-  part_pours more f = pours_on first (out ++ (here ++ rest)) (more ++ rest) told mid tells e (subst (λ (x : List ℕ). Pours x (more ++ rest) mid tells) (append_assoc out here rest) (pours_ahead (out ++ here) more rest mid tells f))
+  part_pours more f = pours_on first (out ++ (here ++ rest)) (more ++ rest) told mid tells e (subst (λ (x : List ℕ). Pours x (more ++ rest) mid tells)
+      (append_assoc out here rest) (pours_ahead (out ++ here) more rest mid tells f))
 
 -- what is left is split so
-pub split_so : (first out left here rest : List ℕ) (told mid : Option (List ℕ)) → left ≡ here ++ rest → Pours first (out ++ left) told mid → Pours first (out ++ (here ++ rest)) told mid
+pub split_so : (first out left here rest : List ℕ) (told mid : Option (List ℕ)) → left ≡ here ++ rest → Pours first (out ++ left) told mid →
+    Pours first (out ++ (here ++ rest)) told mid
 split_so first out left here rest told mid is e = subst (λ (x : List ℕ). Pours first (out ++ x) told mid) is e
 
 -- nothing is left

@@ -6,9 +6,9 @@ use Rattle.dp_meaning.specs.MachineState.{MachineState}
 use Rattle.dp_epoch.specs.declared.ends.RegionEnd.{RegionEnd}
 use Rattle.dp_epoch.specs.RegionRun.{RegionRan}
 use Rattle.dp_audit.specs.declared.runner.Runner.{Runner}
-use Rattle.dp_audit.specs.Runs.{Stands}
+use Rattle.dp_audit.specs.Runs.{RegionStands}
 
 -- where the region stands behind iteration n: the next one comes, or it has ended so
 abbrev pub Logged : Program → Plan → List ℤ → MachineState → ℕ → Runner → Option RegionEnd → Type 0
-Logged p plan input first n r None = Stands p plan input first (suc n) r
+Logged p plan input first n r None = RegionStands p plan input first (suc n) r
 Logged p plan input first n r (Some end) = RegionRan p plan first r.ledger.committed.machine end

@@ -10,6 +10,6 @@ pub record Pours (text left : List ℕ) (told tells : Option (List ℕ)) : Type 
   pub sink : tells ≡ appended written told
 
 -- This text is to be written: some was, and that is left which the answer says. Where it stopped early, a front of it was written.
-abbrev pub Streams : {X E : Type 0} → Result X E → List ℕ → (X → List ℕ) → Option (List ℕ) → Option (List ℕ) → Type 0
-Streams (Ok done) text left told tells = Pours text (left done) told tells
-Streams (Err stop) text left told tells = WritesFront text told tells
+abbrev pub StreamsText : {X E : Type 0} → Result X E → List ℕ → (X → List ℕ) → Option (List ℕ) → Option (List ℕ) → Type 0
+StreamsText (Ok done) text left told tells = Pours text (left done) told tells
+StreamsText (Err stop) text left told tells = WritesFront text told tells

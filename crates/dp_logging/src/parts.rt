@@ -1,12 +1,12 @@
 //! The parts of `main`, one after the other.
 ghost use Rattle.std.specs.Prelude.{◌<◌, ◌≤◌, ◌-◌, ◌^◌, ◌++◌, ℕ, IfOk};
 ghost use Rattle.dp_tree.specs.Trace.{Run};
-ghost use Rattle.dp_log.specs.LogText.{regions_bytes};
+ghost use Rattle.dp_log.specs.LogText.{logged_regions};
 ghost use Rattle.dp_edge.specs.Writing.{FaultsAfter};
 ghost use Rattle.dp_run.specs.Prepared.{AreOf, plans_in};
 ghost use Rattle.dp_run.specs.Stretches.{Ahead};
 ghost use Rattle.dp_logging.specs.Parts.{WentBy};
-ghost use Rattle.dp_logging.specs.Pouring.{Streams};
+ghost use Rattle.dp_logging.specs.Pouring.{StreamsText};
 
 use crate::plain::skip_plain;
 use crate::stretch::log_stretch;
@@ -39,7 +39,8 @@ pub(crate) fn log_parts<'p, R: Wait + Clock, K: Sink>(
     ensures ok { IfOk result (λ ran. (run : Run) (n : ℕ) → Ahead machine.entry.program (plans_in regions.now) input.now machine.entry.fuel run n machine.entry →
         WentBy machine.entry.program (plans_in regions.now) input.now machine.entry.fuel run n ran.0 ran.1) }
     ensures streams { (run : Run) (n : ℕ) → Ahead machine.entry.program (plans_in regions.now) input.now machine.entry.fuel run n machine.entry →
-        Streams result (out.old ++ regions_bytes machine.entry.program (plans_in regions.now) run) (λ _. out.new) (K.written sink.old) (K.written sink.new) }
+        StreamsText result (out.old ++ logged_regions machine.entry.program (plans_in regions.now) run) (λ _. out.new) (K.written sink.old)
+        (K.written sink.new) }
 {
     if let Some(end) = skip_plain(alloc, &mut machine)? {
         return Ok((machine, Some(end)));

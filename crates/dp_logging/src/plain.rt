@@ -12,7 +12,8 @@ use std::alloc::Global;
 
 /// Runs the plain part that comes next, if one does, and drops what it prints. Answers the run's end if that comes in it.
 pub(crate) fn skip_plain(alloc: Global, machine: &mut Machine<'_>) -> Result<Option<End>, NoMemory>
-    ensures { IfOk result (λ end. (p : Tree) (input : List ℤ) (fuel : ℕ) (run : Run) (n : ℕ) → Behind p input fuel run n machine.old → Leads p input fuel run n machine.new end) }
+    ensures { IfOk result (λ end. (p : Tree) (input : List ℤ) (fuel : ℕ) (run : Run) (n : ℕ) → Behind p input fuel run n machine.old →
+        Leads p input fuel run n machine.new end) }
 {
     let mut nowhere = Nowhere;
     let mut tally = Tally::new(Unwatched);

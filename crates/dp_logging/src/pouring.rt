@@ -1,7 +1,7 @@
 //! Lines that wait to be written.
 ghost use Rattle.std.specs.Prelude.{◌≡◌, ◌<◌, ◌-◌, ◌^◌, [], OnOk};
 ghost use Rattle.dp_edge.specs.Writing.{FaultsAfter};
-ghost use Rattle.dp_logging.specs.Pouring.{Streams};
+ghost use Rattle.dp_logging.specs.Pouring.{StreamsText};
 
 use dp_base::Row;
 use dp_edge::{Sink, WriteFail, write};
@@ -13,7 +13,7 @@ const MANY: usize = 65_536;
 pub(crate) fn pour_if_many<K: Sink>(out: &mut Row<u8>, sink: &mut K) -> Result<(), WriteFail>
     requires { K.faults sink.old < 2 ^ 64 - 1 }
     ensures faults { FaultsAfter result (K.faults sink.old) (K.faults sink.new) }
-    ensures streams { Streams result out.old (λ _. out.new) (K.written sink.old) (K.written sink.new) }
+    ensures streams { StreamsText result out.old (λ _. out.new) (K.written sink.old) (K.written sink.new) }
 {
     if out.len() < MANY {
         return Ok(());
@@ -26,7 +26,7 @@ pub(crate) fn pour<K: Sink>(out: &mut Row<u8>, sink: &mut K) -> Result<(), Write
     requires { K.faults sink.old < 2 ^ 64 - 1 }
     ensures faults { FaultsAfter result (K.faults sink.old) (K.faults sink.new) }
     ensures ok { OnOk result (out.new ≡ []) }
-    ensures streams { Streams result out.old (λ _. out.new) (K.written sink.old) (K.written sink.new) }
+    ensures streams { StreamsText result out.old (λ _. out.new) (K.written sink.old) (K.written sink.new) }
 {
     write(out.as_slice(), sink)?;
     out.clear();

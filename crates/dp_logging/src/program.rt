@@ -43,7 +43,8 @@ pub fn log_program<R: Wait + Clock, K: Sink>(
     ensures faults { FaultsAfter result (K.faults sink.old) (K.faults sink.new) }
     ensures ok { let run = source_run prepared.now.program input.now options.fuel in
         IfOk result (λ end. (end ≡ run.end) × (K.written sink.new ≡ appended (log_bytes prepared.now.program prepared.now.plans run) (K.written sink.old))) }
-    ensures err { OnErr result (WritesFront (log_bytes prepared.now.program prepared.now.plans (source_run prepared.now.program input.now options.fuel)) (K.written sink.old) (K.written sink.new)) }
+    ensures err { OnErr result (WritesFront (log_bytes prepared.now.program prepared.now.plans (source_run prepared.now.program input.now options.fuel))
+        (K.written sink.old) (K.written sink.new)) }
 {
     let mut out = Row::new(alloc);
     put_first(&mut out)?;

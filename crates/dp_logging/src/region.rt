@@ -5,12 +5,12 @@ ghost use Rattle.dp_plan.specs.declared.Plan.{Plan as PlanValue};
 ghost use Rattle.dp_log.specs.LogText.{region_bytes};
 ghost use Rattle.dp_meaning.specs.MachineState.{MachineState};
 ghost use Rattle.dp_edge.specs.Writing.{FaultsAfter};
-ghost use Rattle.dp_epoch.specs.Applied.{left_of};
+ghost use Rattle.dp_epoch.specs.Applied.{steps_left};
 ghost use Rattle.dp_epoch.specs.RegionRun.{RegionRan, region_run};
-ghost use Rattle.dp_audit.specs.Runs.{Stands};
+ghost use Rattle.dp_audit.specs.Runs.{RegionStands};
 ghost use Rattle.dp_logging.specs.Lines.{left_lines, left_then};
 ghost use Rattle.dp_logging.specs.Logged.{Logged};
-ghost use Rattle.dp_logging.specs.Pouring.{Streams};
+ghost use Rattle.dp_logging.specs.Pouring.{StreamsText};
 
 use crate::lines::{put_lines, region_end};
 use crate::pouring::pour_if_many;
@@ -32,13 +32,15 @@ pub(crate) fn log_runner<'s, 'q, 'p, R: Wait + Clock, K: Sink>(
 ) -> Result<(Machine<'p>, RegionEnd), WriteFail>
 where
     'p: 's,
-    requires stands { (p : Tree) × (plan : PlanValue) × (input : List ℤ) × (first : MachineState) × (plan.region ≡ region) × Stands p plan input first 0 runner }
+    requires stands { (p : Tree) × (plan : PlanValue) × (input : List ℤ) × (first : MachineState) × (plan.region ≡ region)
+        × RegionStands p plan input first 0 runner }
     requires sink { K.faults sink.old < 2 ^ 64 - 1 }
     ensures faults { FaultsAfter result (K.faults sink.old) (K.faults sink.new) }
     ensures ran { IfOk result (λ ran. (p : Tree) (plan : PlanValue) (input : List ℤ) (first : MachineState) → plan.region ≡ region →
-        Stands p plan input first 0 runner.entry → RegionRan p plan first ran.0 ran.1) }
-    ensures streams { (p : Tree) (plan : PlanValue) (input : List ℤ) (first : MachineState) → plan.region ≡ region → Stands p plan input first 0 runner.entry →
-        Streams result (out.old ++ region_bytes p plan (region_run first)) (λ _. out.new) (K.written sink.old) (K.written sink.new) }
+        RegionStands p plan input first 0 runner.entry → RegionRan p plan first ran.0 ran.1) }
+    ensures streams { (p : Tree) (plan : PlanValue) (input : List ℤ) (first : MachineState) → plan.region ≡ region →
+        RegionStands p plan input first 0 runner.entry →
+        StreamsText result (out.old ++ region_bytes p plan (region_run first)) (λ _. out.new) (K.written sink.old) (K.written sink.new) }
 {
     'iterations: loop {
         match log_next(rt, &mut runner, region, out, sink)? {
@@ -58,14 +60,17 @@ fn log_next<'s, 'q, 'p, R: Wait + Clock, K: Sink>(
 ) -> Result<Option<RegionEnd>, WriteFail>
 where
     'p: 's,
-    requires stands { (p : Tree) × (plan : PlanValue) × (input : List ℤ) × (first : MachineState) × (n : ℕ) × (plan.region ≡ region) × Stands p plan input first n runner.old }
+    requires stands { (p : Tree) × (plan : PlanValue) × (input : List ℤ) × (first : MachineState) × (n : ℕ) × (plan.region ≡ region)
+        × RegionStands p plan input first n runner.old }
     requires sink { K.faults sink.old < 2 ^ 64 - 1 }
     ensures faults { FaultsAfter result (K.faults sink.old) (K.faults sink.new) }
     ensures ok { IfOk result (λ end. (p : Tree) (plan : PlanValue) (input : List ℤ) (first : MachineState) (n : ℕ) →
-        Stands p plan input first n runner.old → Logged p plan input first n runner.new end) }
-    ensures streams { (p : Tree) (plan : PlanValue) (input : List ℤ) (first : MachineState) (n : ℕ) → plan.region ≡ region → Stands p plan input first n runner.old →
-        Streams result (out.old ++ left_lines p plan (region_run first) n) (λ end. out.new ++ left_then p plan (region_run first) n end) (K.written sink.old) (K.written sink.new) }
-    ensures left { IfOk result (λ end. end ≡ None → left_of runner.new.ledger.committed < left_of runner.old.ledger.committed) }
+        RegionStands p plan input first n runner.old → Logged p plan input first n runner.new end) }
+    ensures streams { (p : Tree) (plan : PlanValue) (input : List ℤ) (first : MachineState) (n : ℕ) → plan.region ≡ region →
+        RegionStands p plan input first n runner.old →
+        StreamsText result (out.old ++ left_lines p plan (region_run first) n) (λ end. out.new ++ left_then p plan (region_run first) n end)
+        (K.written sink.old) (K.written sink.new) }
+    ensures left { IfOk result (λ end. end ≡ None → steps_left runner.new.ledger.committed < steps_left runner.old.ledger.committed) }
 {
     match runner.next(rt)? {
         Some(group) => {

@@ -5,7 +5,7 @@ ghost use Rattle.dp_tree.specs.Trace.{Run};
 ghost use Rattle.dp_log.specs.LogText.{region_bytes};
 ghost use Rattle.dp_edge.specs.Writing.{FaultsAfter};
 ghost use Rattle.dp_run.specs.Stretches.{AfterRegion, Between, Leads};
-ghost use Rattle.dp_logging.specs.Pouring.{Streams};
+ghost use Rattle.dp_logging.specs.Pouring.{StreamsText};
 
 use crate::plain::skip_plain;
 use crate::region::log_runner;
@@ -35,10 +35,11 @@ pub(crate) fn log_stretch<'p, R: Wait + Clock, K: Sink>(
     requires fuel { machine.fuel ≤ 1000000000 }
     requires sink { K.faults sink.old < 2 ^ 64 - 1 }
     ensures faults { FaultsAfter result (K.faults sink.old) (K.faults sink.new) }
-    ensures ok { IfOk result (λ ran. (run : Run) (n : ℕ) → region.now.plan.region ≡ suc n → Between region.now.program input.now machine.entry.fuel run n machine.entry →
+    ensures ok { IfOk result (λ ran. (run : Run) (n : ℕ) → region.now.plan.region ≡ suc n →
+        Between region.now.program input.now machine.entry.fuel run n machine.entry →
         Leads region.now.program input.now machine.entry.fuel run (suc n) ran.0 ran.1) }
     ensures streams { (run : Run) (n : ℕ) → region.now.plan.region ≡ suc n → Between region.now.program input.now machine.entry.fuel run n machine.entry →
-        Streams result (out.old ++ region_bytes region.now.program region.now.plan run) (λ _. out.new) (K.written sink.old) (K.written sink.new) }
+        StreamsText result (out.old ++ region_bytes region.now.program region.now.plan run) (λ _. out.new) (K.written sink.old) (K.written sink.new) }
 {
     let number = region.number();
     let runner = Runner::begin(alloc, region.region(), input, machine, size)?;
@@ -53,7 +54,8 @@ fn pass_plain<'p>(
     machine: Machine<'p>,
     end: RegionEnd,
 ) -> Result<(Machine<'p>, Option<End>), NoMemory>
-    ensures { IfOk result (λ ran. (p : Tree) (input : List ℤ) (fuel : ℕ) (run : Run) (n : ℕ) → AfterRegion p input fuel run n machine.entry end → Leads p input fuel run n ran.0 ran.1) }
+    ensures { IfOk result (λ ran. (p : Tree) (input : List ℤ) (fuel : ℕ) (run : Run) (n : ℕ) → AfterRegion p input fuel run n machine.entry end →
+        Leads p input fuel run n ran.0 ran.1) }
 {
     let mut machine = machine;
     let end = match end {

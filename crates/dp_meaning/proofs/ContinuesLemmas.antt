@@ -1,5 +1,6 @@
 -- Pieces of a run, one after the other.
-use Rattle.dp_meaning.proofs.Names.{◌≡◌, refl, sym, ◌∙◌, ap, ℕ, suc, ◌≢◌, zero, List, [], ◌∷◌, ◌++◌, append_assoc, length-append, ℤ, arith, Fault, Stmt, Program, Config, Event, Step, Finished, Faulted, Stepped, step, Run, run_of, run_by, ended, end_at, part_of, Continues}
+use Rattle.dp_meaning.proofs.Names.{◌≡◌, refl, sym, ◌∙◌, ap, ℕ, suc, ◌≢◌, zero, List, [], ◌∷◌, ◌++◌, append_assoc, length-append, ℤ, arith, Fault, Stmt}
+use Rattle.dp_meaning.proofs.Names.{Program, Config, Event, Step, Finished, Faulted, Stepped, step, Run, run_of, run_by, ended, end_at, part_of, Continues}
 use Rattle.dp_meaning.specs.declared.ends.Part.TheVariants as part
 use Rattle.dp_base.specs.declared.End.TheVariants as how
 

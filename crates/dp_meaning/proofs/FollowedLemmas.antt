@@ -1,5 +1,8 @@
 -- What is left to do after a step, and what of it stands from the next region on.
-use Rattle.dp_meaning.proofs.Names.{and_make, and_true, ◌≡◌, refl, sym, ap, ◌∙◌, subst, ℕ, Bool, true, false, not, if◌then◌else◌, List, [], ◌∷◌, ◌++◌, drop, ℤ, is_zero, Stmt, out-Stmt, Stmt-F, choose, followed, taken_left, behind_region, behind_one, region_number, None, is_plain, is_inner, inner_all, inner_at, inner_out, inner_plain, plain_all, plain_choose, top_at, is_top, top_fits, next_region, regions_in_order, all_top, list_all, IsOrdered, part_from, is_any_region, from_region}
+use Rattle.dp_meaning.proofs.Names.{and_make, and_true, ◌≡◌, refl, sym, ap, ◌∙◌, subst, ℕ, Bool, true, false, not, if◌then◌else◌, List, [], ◌∷◌, ◌++◌, drop, ℤ}
+use Rattle.dp_meaning.proofs.Names.{is_zero, Stmt, out-Stmt, Stmt-F, choose, followed, taken_left, behind_region, behind_one, region_number, None, is_plain}
+use Rattle.dp_meaning.proofs.Names.{is_inner, inner_all, inner_at, inner_out, inner_plain, plain_all, plain_choose, top_at, is_top, top_fits, next_region}
+use Rattle.dp_meaning.proofs.Names.{regions_in_order, all_top, list_all, IsOrdered, part_from, is_any_region, from_region}
 use Rattle.dp_meaning.specs.declared.ends.Part.TheVariants as part
 use Rattle.dp_tree.specs.declared.Stmt.TheOpen.{If, While, Region, Break}
 use Rattle.dp_tree.specs.declared.Stmt.TheVariants.{Region'}
@@ -10,7 +13,8 @@ pub left_behind : (xs : List Stmt) → behind_region xs ≡ drop 1 (from_region 
 left_behind [] = refl
 left_behind (x ∷ xs) = by (out-Stmt x) (left_behind xs)
   where
-    by : (h : Stmt-F Stmt) → behind_region xs ≡ drop 1 (from_region xs) → behind_one (region_number h) xs (behind_region xs) ≡ drop 1 (if is_any_region h then x ∷ xs else from_region xs)
+    by : (h : Stmt-F Stmt) → behind_region xs ≡ drop 1 (from_region xs) → behind_one (region_number h) xs (behind_region xs) ≡ drop 1 (if is_any_region h then x
+        ∷ xs else from_region xs)
     by (Region r site cond a) later = refl
     by _ later = later
 
@@ -19,7 +23,8 @@ not_region : (h : Stmt-F Stmt) → inner_at h ≡ true → (is_any_region h ≡ 
 not_region (Region r site cond a) k = absurd (cc)
 not_region _ k = (refl, refl, refl)
 
-pub no_region_at : (x : Stmt) → is_inner x ≡ true → (is_any_region (out-Stmt x) ≡ false) × (region_number (out-Stmt x) ≡ None) × (part_from (out-Stmt x) ≡ part.Plain)
+pub no_region_at : (x : Stmt) → is_inner x ≡ true → (is_any_region (out-Stmt x) ≡ false) × (region_number (out-Stmt x) ≡ None)
+    × (part_from (out-Stmt x) ≡ part.Plain)
 no_region_at x k = not_region (out-Stmt x) (sym (inner_out x) ∙ k)
 
 pub from_region-append : (xs ys : List Stmt) → inner_all xs ≡ true → from_region (xs ++ ys) ≡ from_region ys
@@ -39,7 +44,8 @@ in_order-append r [] ys k o = o
 in_order-append r (x ∷ xs) ys k o =
     let both = and_true (is_plain x) (plain_all xs) k in
     let top = top_of_plain x r both.0 in
-    and_make (top_fits r x) (regions_in_order (next_region r x) (xs ++ ys)) top.0 (subst (λ (q : ℕ). regions_in_order q (xs ++ ys) ≡ true) (sym top.1) (in_order-append r xs ys both.1 o))
+    and_make (top_fits r x) (regions_in_order (next_region r x) (xs ++ ys)) top.0 (subst (λ (q : ℕ). regions_in_order q (xs ++ ys) ≡ true) (sym top.1)
+    (in_order-append r xs ys both.1 o))
 
 ordered-append : (xs ys : List Stmt) → plain_all xs ≡ true → IsOrdered ys → IsOrdered (xs ++ ys)
 ordered-append xs ys k o = (o.0, in_order-append o.0 xs ys k o.1)
@@ -91,7 +97,8 @@ module _ (x : Stmt) (rest : List Stmt) (z : ℤ) where
   followed_off (Break site cond) is e = taken_left x rest (Break site cond) z e ∙ left_behind rest ∙ ap (drop 1) (at (Break site cond) is)
   followed_off _ is e = absurd (cc)
 
-  looped : (a : List Stmt) → inner_all a ≡ true → from_region rest ≡ from_region (x ∷ rest) → (b : Bool) → from_region (if b then rest else a ++ x ∷ rest) ≡ from_region (x ∷ rest)
+  looped : (a : List Stmt) → inner_all a ≡ true → from_region rest ≡ from_region (x ∷ rest) → (b : Bool) →
+      from_region (if b then rest else a ++ x ∷ rest) ≡ from_region (x ∷ rest)
   looped a k e true = e
   looped a k e false = from_region-append a (x ∷ rest) k
 
@@ -115,7 +122,8 @@ module _ (x : Stmt) (rest : List Stmt) (z : ℤ) where
     around a k false = ordered-append a (x ∷ rest) k o
 
     pub followed_ordered : (h : Stmt-F Stmt) → top_at h ≡ true → is_any_region h ≡ false → IsOrdered (followed x rest h z)
-    followed_ordered (If site cond a b) k e = let both = and_true (plain_all a) (plain_all b) k in ordered-append (choose z a b) rest (plain_choose z a b both.0 both.1) (ordered_rest (x ∷ rest) o)
+    followed_ordered (If site cond a b) k e = let both = and_true (plain_all a) (plain_all b) k in
+        ordered-append (choose z a b) rest (plain_choose z a b both.0 both.1) (ordered_rest (x ∷ rest) o)
     followed_ordered (While site cond a) k e = around a k (is_zero z)
     followed_ordered (Region r site cond a) k e = absurd (cc)
     followed_ordered (Break site cond) k e = absurd (cc)

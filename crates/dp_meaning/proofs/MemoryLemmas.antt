@@ -1,5 +1,7 @@
 -- Stores and clearing.
-use Rattle.dp_meaning.proofs.Names.{◌≡◌, refl, ◌∙◌, ap, ℕ, ◌+◌, ◌<◌, List, [], ◌∷◌, ◌++◌, replicate, drop, get_or, length, slice_set, if◌then◌else◌, Option, Some, None, ℤ, pos, length-set, StoreOf, Stmt, out-Stmt, Program, VarInfo, start_cells, is_local_of, clear_locals, region_number, clear_one, cleared_leaving, with_stores, first_of, first_region}
+use Rattle.dp_meaning.proofs.Names.{◌≡◌, refl, ◌∙◌, ap, ℕ, ◌+◌, ◌<◌, List, [], ◌∷◌, ◌++◌, replicate, drop, get_or, length, slice_set, if◌then◌else◌, Option}
+use Rattle.dp_meaning.proofs.Names.{Some, None, ℤ, pos, length-set, StoreOf, Stmt, out-Stmt, Program, VarInfo, start_cells, is_local_of, clear_locals}
+use Rattle.dp_meaning.proofs.Names.{region_number, clear_one, cleared_leaving, with_stores, first_given, first_region}
 use Rattle.dp_room.proofs.ListLemmas.{next_of}
 use Rattle.dp_tree.proofs.InMain.{cleared_length}
 
@@ -24,7 +26,8 @@ pub leaving : (p : Program) (xs : List Stmt) (cells : List ℤ) → cleared_leav
 leaving p [] cells = refl
 leaving p (x ∷ xs) cells = by (region_number (out-Stmt x)) (leaving p xs cells)
   where
-    by : (o : Option ℕ) → cleared_leaving p xs cells ≡ clear_one p (first_region xs) cells cells → clear_one p o cells (cleared_leaving p xs cells) ≡ clear_one p (first_of o (first_region xs)) cells cells
+    by : (o : Option ℕ) → cleared_leaving p xs cells ≡ clear_one p (first_region xs) cells cells → clear_one p o cells (cleared_leaving p xs cells) ≡ clear_one
+        p (first_given o (first_region xs)) cells cells
     by None later = later
     by (Some r) later = refl
 

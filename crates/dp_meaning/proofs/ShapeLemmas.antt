@@ -1,9 +1,14 @@
 -- The shape of what is left to do, after a step.
-use Rattle.dp_meaning.proofs.Names.{◌≡◌, ◌≢◌, refl, sym, ap, ◌∙◌, subst, ℕ, Bool, true, false, List, [], ◌∷◌, ◌++◌, drop, Option, Some, None, ℤ, eq-eqb, list_all, Stmt, out-Stmt, Stmt-F, Program, StandsInMain, is_inner, is_top, all_top, regions_in_order, Config, Event, Stepped, step, standing, value_of, leaves, and_true, standing_to_do, StepsTo, stepped, not_stepped, inner_all, inner_out, Part, part_from, part_of, part_at, is_any_region, from_region, IsOrdered, UnderWay, IsEndOfMain, leaves_region, current_behind, top_at}
+use Rattle.dp_meaning.proofs.Names.{◌≡◌, ◌≢◌, refl, sym, ap, ◌∙◌, subst, ℕ, Bool, true, false, List, [], ◌∷◌, ◌++◌, drop, Option, Some, None, ℤ, eq-eqb}
+use Rattle.dp_meaning.proofs.Names.{list_all, Stmt, out-Stmt, Stmt-F, Program, StandsInMain, is_inner, is_top, all_top, regions_in_order, Config, Event}
+use Rattle.dp_meaning.proofs.Names.{Stepped, step, standing, value_of, leaves, and_true, standing_to_do, StepsTo, stepped, not_stepped, inner_all, inner_out}
+use Rattle.dp_meaning.proofs.Names.{Part, part_from, part_of, part_at, is_any_region, from_region, IsOrdered, UnderWay, IsEndOfMain, leaves_region}
+use Rattle.dp_meaning.proofs.Names.{current_behind, top_at}
 use Rattle.std.proofs.lemmas.List.Folds.{list_all-append}
 use Rattle.dp_meaning.specs.declared.ends.Part.TheVariants as part
 use Rattle.dp_tree.specs.declared.Stmt.TheOpen.{Region, Break}
-use Rattle.dp_meaning.proofs.FollowedLemmas.{no_region_at, goes_off, fits_at, inner_fits, top_fits_at, followed_off, followed_on, followed_ordered, ordered_rest, ordered_from, ordered_head}
+use Rattle.dp_meaning.proofs.FollowedLemmas.{no_region_at, goes_off, fits_at, inner_fits, top_fits_at, followed_off, followed_on, followed_ordered}
+use Rattle.dp_meaning.proofs.FollowedLemmas.{ordered_rest, ordered_from, ordered_head}
 use Rattle.dp_meaning.proofs.StopLemmas.{from_region-over}
 
 pub not_plain : (q : Part) (r : ℕ) → q ≡ part.Region r → q ≢ part.Plain
@@ -43,13 +48,16 @@ module _ (p : Program) (input : List ℤ) (c d : Config) (event : Event) (s : st
       where
         by : (inner : List Stmt) → inner_all inner ≡ true → x ∷ rest ≡ inner ++ t.behind → fits_at head ≡ true
         by [] k f =
-            let tops : list_all is_top (t.before ++ x ∷ rest) ≡ true = ap (λ (ys : List Stmt). list_all is_top (t.before ++ ys)) f ∙ ap (list_all is_top) (sym t.main_is) ∙ all_top 1 p.main in_order in
-            top_fits_at head (and_true (is_top x) (list_all is_top rest) (and_true (list_all is_top t.before) (list_all is_top (x ∷ rest)) (sym (list_all-append is_top t.before (x ∷ rest)) ∙ tops)).1).0
+            let tops : list_all is_top (t.before ++ x ∷ rest) ≡ true = ap (λ (ys : List Stmt). list_all is_top (t.before ++ ys)) f
+            ∙ ap (list_all is_top) (sym t.main_is) ∙ all_top 1 p.main in_order in
+            top_fits_at head (and_true (is_top x) (list_all is_top rest) (and_true (list_all is_top t.before) (list_all is_top (x ∷ rest))
+            (sym (list_all-append is_top t.before (x ∷ rest)) ∙ tops)).1).0
         by (y ∷ inner) k f =
             let same : x ≡ y = cc in
             inner_fits head (sym (inner_out x) ∙ ap is_inner same ∙ (and_true (is_inner y) (inner_all inner) k).0)
 
-    leaves_by : (h : Stmt-F Stmt) → StepsTo x rest h event d → (goes_off h z ≡ leaves_region (part_from h) event.effect) × ((r : ℕ) → part_from h ≡ part.Region r → leaves event.effect ≡ false)
+    leaves_by : (h : Stmt-F Stmt) → StepsTo x rest h event d → (goes_off h z ≡ leaves_region (part_from h) event.effect)
+        × ((r : ℕ) → part_from h ≡ part.Region r → leaves event.effect ≡ false)
     leaves_by (Region r site cond a) t = (sym (t.zero r (eq-eqb r r refl)), λ q f. t.left)
     leaves_by _ t = (sym t.left, λ q f. absurd (cc))
 
@@ -61,7 +69,8 @@ module _ (p : Program) (input : List ℤ) (c d : Config) (event : Event) (s : st
       off_to f = to.to_do ∙ followed_off x rest z head refl f ∙ ap (λ (ys : List Stmt). drop 1 (from_region ys)) (sym e)
 
       -- in an iteration, what is left of it, or its region again
-      within : (r : ℕ) → part_of (from_region c.to_do) ≡ part.Region r → IsOrdered (from_region c.to_do) → (b : Bool) → goes_off head z ≡ b → UnderWay (current_behind b (part.Region r) (part_of d.to_do)) d.to_do
+      within : (r : ℕ) → part_of (from_region c.to_do) ≡ part.Region r → IsOrdered (from_region c.to_do) → (b : Bool) → goes_off head z ≡ b →
+          UnderWay (current_behind b (part.Region r) (part_of d.to_do)) d.to_do
       within r next o true f = subst IsOrdered (sym (off_to f)) (ordered_rest (from_region c.to_do) o)
       within r next o false f = by (part_of d.to_do) refl
         where
@@ -86,7 +95,8 @@ module _ (p : Program) (input : List ℤ) (c d : Config) (event : Event) (s : st
           by h is k =
               let at : part_of c.to_do ≡ part.Plain = ap part_of e ∙ ap part_from is in
               let stays : goes_off head z ≡ false = ap (λ (f : Stmt-F Stmt). goes_off f z) is in
-              subst (λ (q : Part). UnderWay (current_behind (goes_off head z) q (part_of d.to_do)) d.to_do) (sym at) (subst (λ (b : Bool). UnderWay (current_behind b part.Plain (part_of d.to_do)) d.to_do) (sym stays)
+              subst (λ (q : Part). UnderWay (current_behind (goes_off head z) q (part_of d.to_do)) d.to_do) (sym at)
+              (subst (λ (b : Bool). UnderWay (current_behind b part.Plain (part_of d.to_do)) d.to_do) (sym stays)
               (subst IsOrdered (sym to.to_do) (followed_ordered x rest z (subst IsOrdered e o) head (ap top_at is ∙ k) (ap is_any_region is))))
 
       plain_stays : (current : Option ℕ) → UnderWay current c.to_do → part_at current c.to_do ≡ part.Plain → goes_off head z ≡ false
@@ -94,9 +104,18 @@ module _ (p : Program) (input : List ℤ) (c d : Config) (event : Event) (s : st
       plain_stays None o f = unbroken head z (ordered_head x rest (subst IsOrdered e o)) (sym (ap part_of e) ∙ f)
 
       shaped_at : (current : Option ℕ) → UnderWay current c.to_do → Shape current (goes_off head z)
-      shaped_at current u = record { under_way = way current u; stays = on; off = off_to; plain = plain_stays current u; decides = λ q f. (leaves_by head to).1 q (sym (ap part_of e) ∙ f) }
+      shaped_at current u =
+          record {
+            under_way = way current u;
+            stays = on;
+            off = off_to;
+            plain = plain_stays current u;
+            decides = λ q f. (leaves_by head to).1 q (sym
+                (ap part_of e) ∙ f);
+          }
 
-  pub shaped : regions_in_order 1 p.main ≡ true → StandsInMain p c → (current : Option ℕ) → UnderWay current c.to_do → Shape current (leaves_region (part_of c.to_do) event.effect)
+  pub shaped : regions_in_order 1 p.main ≡ true → StandsInMain p c → (current : Option ℕ) → UnderWay current c.to_do →
+      Shape current (leaves_region (part_of c.to_do) event.effect)
   shaped in_order t current u = by c.to_do refl
     where
       by : (xs : List Stmt) → c.to_do ≡ xs → Shape current (leaves_region (part_of c.to_do) event.effect)

@@ -1,5 +1,7 @@
 -- What a stretch of steps is of a plain part, and of an iteration.
-use Rattle.dp_meaning.proofs.Names.{IsAnyRegion, Result, Ok, Err, ◌≡◌, refl, sym, ◌∙◌, ap, subst, ℕ, Option, None, Some, List, [], ◌∷◌, length, ℤ, Config, Event, Stmt, Part, PartEnd, MachineState, part_of, part_at, next_part, from_region, Spoiled, PartRun, PartStops, IterationRun, HeadsOnce, Awaits, has_closed, upto_closing, current_after, UnderWay}
+use Rattle.dp_meaning.proofs.Names.{IsAnyRegion, Result, Ok, Err, ◌≡◌, refl, sym, ◌∙◌, ap, subst, ℕ, Option, None, Some, List, [], ◌∷◌, length, ℤ, Config}
+use Rattle.dp_meaning.proofs.Names.{Event, Stmt, Part, PartEnd, MachineState, part_of, part_at, next_part, from_region, Spoiled, PartRun, PartStops}
+use Rattle.dp_meaning.proofs.Names.{IterationRun, HeadsOnce, AwaitsCondition, has_closed, upto_closing, current_after, UnderWay}
 use Rattle.std.specs.Prelude.{MatchResult}
 use Rattle.dp_room.specs.declared.NoMemory.{NoMemory}
 use Rattle.dp_meaning.specs.declared.ends.Part.TheVariants as part
@@ -23,7 +25,8 @@ module _ (turns : ℕ) (old new : MachineState) (x z : List ℤ) (next : next_pa
   idle : old.current ≡ None
   idle = plain_idle old.current old.config.to_do next
 
-  run_with : (how : IterEnd) (s : Stretch turns old new x z how) (stop : PartEnd) → from_region new.config.to_do ≡ from_region old.config.to_do → new.current ≡ None → PartStops turns (length s.events) old new stop → PartRun turns old new x z stop
+  run_with : (how : IterEnd) (s : Stretch turns old new x z how) (stop : PartEnd) → from_region new.config.to_do ≡ from_region old.config.to_do →
+      new.current ≡ None → PartStops turns (length s.events) old new stop → PartRun turns old new x z stop
   run_with how s stop behind current stops = record {
     went = record {
       events = s.events;
@@ -56,7 +59,7 @@ module _ (region : ℕ) where
     closed : (es : List Event) → has_closed current es ≡ has_left (part_of c.to_do) es
     upto : (es : List Event) → upto_closing current es ≡ upto_left (part_of c.to_do) es
     heads : (cs : List Config) → HeadsHere c cs → HeadsOnce region current cs
-    awaits : Awaits region current c
+    awaits : AwaitsCondition region current c
     ahead : part_of (from_region c.to_do) ≡ part.Region region
 
   pub at_head : (c : Config) → part_of c.to_do ≡ part.Region region → (cs : List Config) → HeadsHere c cs → HeadsOnce region None cs
@@ -89,9 +92,15 @@ module _ (region : ℕ) where
     here : At old.current old.config
     here = at old.current old.config u next
 
-    amid : (es : List Event) → next_part new ≡ next_part old → IsAmid old new es → (new.current ≡ current_after region old.current es) × Awaits region new.current new.config
-    amid [] same h = (h.0, subst (λ (o : Option ℕ). Awaits region o new.config) (sym h.0) (subst (λ (c : Config). Awaits region old.current c) (sym h.1) here.awaits))
-    amid (e ∷ es) same plain = let is = named new.current new.config.to_do plain (same ∙ next) in (is, subst (λ (o : Option ℕ). Awaits region o new.config) (sym is) plain)
+    amid : (es : List Event) → next_part new ≡ next_part old → IsAmid old new es → (new.current ≡ current_after region old.current es)
+        × AwaitsCondition region new.current new.config
+    amid [] same h = (
+      h.0,
+      subst (λ (o : Option ℕ). AwaitsCondition region o new.config) (sym h.0) (subst (λ (c : Config). AwaitsCondition region old.current c)
+          (sym h.1) here.awaits),
+    )
+    amid (e ∷ es) same plain = let is = named new.current new.config.to_do plain (same ∙ next) in
+        (is, subst (λ (o : Option ℕ). AwaitsCondition region o new.config) (sym is) plain)
 
     pub stops : (how : IterEnd) (s : Stretch turns old new x z how) → IterationStops region turns old new s.events how
     stops end.Next s = let over = from_region-over new.config.to_do s.stands.1 in record {
@@ -102,14 +111,27 @@ module _ (region : ℕ) where
       some = λ e. s.stands.2;
     }
     stops end.Closed s = record { closed = here.closed s.events ∙ s.left; last = here.upto s.events ∙ s.last; current = s.stands.0; rest = s.behind }
-    stops (end.Fault fault) s = let a = amid s.events s.stands.0 s.stands.1 in (record { not_closed = here.closed s.events ∙ s.left; current = a.0; awaits = a.1; behind = s.behind }, s.halts.0, s.halts.1)
-    stops end.Fuel s = let a = amid s.events s.stands.0 s.stands.1 in (record { not_closed = here.closed s.events ∙ s.left; current = a.0; awaits = a.1; behind = s.behind }, s.halts)
-    stops end.Going s = let a = amid s.events s.stands.0 s.stands.1 in (record { not_closed = here.closed s.events ∙ s.left; current = a.0; awaits = a.1; behind = s.behind }, s.halts.0, s.halts.1)
+    stops (end.Fault fault) s = let a = amid s.events s.stands.0 s.stands.1 in
+        (record { not_closed = here.closed s.events ∙ s.left; current = a.0; awaits = a.1; behind = s.behind }, s.halts.0, s.halts.1)
+    stops end.Fuel s = let a = amid s.events s.stands.0 s.stands.1 in
+        (record { not_closed = here.closed s.events ∙ s.left; current = a.0; awaits = a.1; behind = s.behind }, s.halts)
+    stops end.Going s = let a = amid s.events s.stands.0 s.stands.1 in
+        (record { not_closed = here.closed s.events ∙ s.left; current = a.0; awaits = a.1; behind = s.behind }, s.halts.0, s.halts.1)
 
     pub as_iteration : (how : IterEnd) → Stretch turns old new x z how → IterationRun region turns old new x z how
-    as_iteration how s = record { events = s.events; configs = s.configs; moved = s.moved; heads = here.heads s.configs s.heads; within = s.within; stops = stops how s; spoiled = s.spoiled }
+    as_iteration how s =
+        record {
+          events = s.events;
+          configs = s.configs;
+          moved = s.moved;
+          heads = here.heads s.configs s.heads;
+          within = s.within;
+          stops = stops how s;
+          spoiled = s.spoiled;
+        }
 
-pub iterated : (region turns : ℕ) (old new : MachineState) (x z : List ℤ) → UnderWay old.current old.config.to_do → next_part old ≡ part.Region region → (r : Result IterEnd NoMemory) → MatchResult r (Stretch turns old new x z) (λ _. Spoiled turns old new x z)
+pub iterated : (region turns : ℕ) (old new : MachineState) (x z : List ℤ) → UnderWay old.current old.config.to_do → next_part old ≡ part.Region region →
+    (r : Result IterEnd NoMemory) → MatchResult r (Stretch turns old new x z) (λ _. Spoiled turns old new x z)
     → MatchResult r (IterationRun region turns old new x z) (λ _. Spoiled turns old new x z)
 iterated region turns old new x z u next (Ok how) s = as_iteration region turns old new x z u next how s
 iterated region turns old new x z u next (Err why) s = s

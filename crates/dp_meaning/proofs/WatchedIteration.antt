@@ -1,5 +1,6 @@
 -- One step of an iteration, and why the iteration stops behind it.
-use Rattle.dp_meaning.proofs.Names.{◌≡◌, ◌≢◌, refl, sym, ◌∙◌, ap, subst, ℕ, ◌+◌, ◌<◌, ◌==◌, Bool, true, false, inl, inr, Ok, List, ℤ, arith, cases_Bool, eq-eqb, Fault, SiteId, Part, IsAnyRegion, MachineState, part_of, next_part, IterationRun, Seen, StepTaken, TurnTaken, UnderWay}
+use Rattle.dp_meaning.proofs.Names.{◌≡◌, ◌≢◌, refl, sym, ◌∙◌, ap, subst, ℕ, ◌+◌, ◌<◌, ◌==◌, Bool, true, false, inl, inr, Ok, List, ℤ, arith, cases_Bool, eq-eqb}
+use Rattle.dp_meaning.proofs.Names.{Fault, SiteId, Part, IsAnyRegion, MachineState, part_of, next_part, IterationRun, Seen, StepTaken, TurnTaken, UnderWay}
 use Rattle.std.proofs.lemmas.Bool.{cases_eq, ne_eqb}
 use Rattle.dp_meaning.specs.declared.ends.Part.TheVariants as part
 use Rattle.dp_meaning.specs.declared.turn.Turn.TheVariants as turn
@@ -19,7 +20,8 @@ region_left : (q : Part) (r : ℕ) → q ≡ part.Region r → q ≢ part.Finish
 region_left q r e f = absurd (cc)
 
 -- A step ends the stretch, or the fuel or the turn is spent behind it.
-pub one_turn : (left : Bool) (m n : MachineState) (x y : List ℤ) → part_of m.config.to_do ≢ part.Finished → m.steps < m.fuel → StepTaken left m n x y → Stretch 1 m n x y (end_behind left n)
+pub one_turn : (left : Bool) (m n : MachineState) (x y : List ℤ) → part_of m.config.to_do ≢ part.Finished → m.steps < m.fuel → StepTaken left m n x y →
+    Stretch 1 m n x y (end_behind left n)
 one_turn true m n x y some fuel s = closes_now true m n x y some fuel s 0 refl
 one_turn false m n x y some fuel s = by (part_of n.config.to_do) refl
   where
@@ -30,7 +32,8 @@ one_turn false m n x y some fuel s = by (part_of n.config.to_do) refl
       | inl spent ↦ subst (λ (b : Bool). Stretch 1 m n x y (end_by false true b)) (sym (eq-eqb n.steps n.fuel spent))
           (one_more false m n x y some fuel s refl e 0 n y end.Fuel (fuel_spent 0 n y (unfinished (part_of n.config.to_do) e) spent))
       | inr more ↦ subst (λ (b : Bool). Stretch 1 m n x y (end_by false true b)) (sym (ne_eqb n.steps n.fuel more))
-          (one_more false m n x y some fuel s refl e 0 n y end.Going (no_turn 0 n y (let steps = ap (λ (o : MachineState). o.steps) s.rest in let all = ap (λ (o : MachineState). o.fuel) s.rest in omega (arith, steps, all, fuel, more)) refl))
+          (one_more false m n x y some fuel s refl e 0 n y end.Going (no_turn 0 n y (let steps = ap (λ (o : MachineState). o.steps) s.rest in
+          let all = ap (λ (o : MachineState). o.fuel) s.rest in omega (arith, steps, all, fuel, more)) refl))
     ]
 
 -- a statement is left where an iteration goes on
@@ -47,5 +50,6 @@ module _ (region : ℕ) (m n : MachineState) (x y : List ℤ) (u : UnderWay m.cu
   pub fault_run : (fault : Fault) → m.steps < m.fuel → TurnTaken (turn.Fault fault) m n x y → IterationRun region 1 m n x y (end.Fault fault)
   fault_run fault less taken = as_iteration region 1 m n x y u next (end.Fault fault) (faulted 1 m x fault n y less (omega arith) taken)
 
-  pub step_run : (left : Bool) (site : SiteId) (seen : Seen) → m.steps < m.fuel → TurnTaken (turn.Made left site seen) m n x y → IterationRun region 1 m n x y (end_behind left n)
+  pub step_run : (left : Bool) (site : SiteId) (seen : Seen) → m.steps < m.fuel → TurnTaken (turn.Made left site seen) m n x y →
+      IterationRun region 1 m n x y (end_behind left n)
   step_run left site seen less taken = as_iteration region 1 m n x y u next (end_behind left n) (one_turn left m n x y some less taken.0)

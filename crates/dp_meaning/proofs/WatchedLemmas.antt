@@ -1,5 +1,8 @@
 -- What a watched step is of the run.
-use Rattle.dp_meaning.proofs.Names.{Spoiled, ◌≡◌, ◌≢◌, refl, sym, ◌∙◌, ap, subst, append-nil, append_assoc, ℕ, zero, suc, ◌<◌, Bool, false, true, List, [], ◌∷◌, ◌++◌, ℤ, arith, End, Fault, SiteId, Stmt, out-Stmt, Stmt-F, Program, Load, Config, Step, Faulted, step, Run, run_of, ended, prints, Told, Loads, Seen, Turn, MachineState, fuel_left, rest_of_run, part_from, part_of, TurnTaken, notes, cells_of, effect_prints, sight_prints, Tells, Ends, WatchSpoiled, WatchedStep}
+use Rattle.dp_meaning.proofs.Names.{Spoiled, ◌≡◌, ◌≢◌, refl, sym, ◌∙◌, ap, subst, append-nil, append_assoc, ℕ, zero, suc, ◌<◌, Bool, false, true, List, [], ◌∷◌}
+use Rattle.dp_meaning.proofs.Names.{◌++◌, ℤ, arith, End, Fault, SiteId, Stmt, out-Stmt, Stmt-F, Program, Load, Config, Step, Faulted, step, Run, run_of, ended}
+use Rattle.dp_meaning.proofs.Names.{prints, ToldLoads, Loads, Seen, Turn, MachineState, fuel_left, rest_of_run, part_from, part_of, TurnTaken, notes, cells_of}
+use Rattle.dp_meaning.proofs.Names.{effect_prints, sight_prints, TellsLoads, Ends, WatchSpoiled, WatchedStep}
 use Rattle.dp_meaning.proofs.StretchLemmas.{wanting, already_spoiled}
 use Rattle.dp_meaning.specs.declared.ends.Part.TheVariants as part
 use Rattle.dp_meaning.specs.declared.turn.Turn.TheVariants as turn
@@ -11,7 +14,8 @@ use Rattle.dp_meaning.proofs.StepLemmas.{printed_so}
 use Rattle.dp_meaning.proofs.StopLemmas.{spent_fuel, faults_next}
 
 -- the cells that were told stand behind the others
-pub told_cells : (loads : List Load) (old new : Loads) → Told notes old loads new → new.wanting ≡ false → (old.wanting ≡ false) × (new.cells ≡ old.cells ++ cells_of loads)
+pub told_cells : (loads : List Load) (old new : Loads) → ToldLoads notes old loads new → new.wanting ≡ false → (old.wanting ≡ false)
+    × (new.cells ≡ old.cells ++ cells_of loads)
 told_cells [] old new same whole = (subst (λ (l : Loads). l.wanting ≡ false) same whole, ap (λ (l : Loads). l.cells) same ∙ sym (append-nil old.cells))
 told_cells (load ∷ rest) old new many whole =
     let later = told_cells rest many.0 new many.2 whole in
@@ -26,7 +30,8 @@ part_finished (s ∷ rest) e = absurd (by (out-Stmt s) e)
     by (Region r site cond a) e = cc e
     by _ e = cc e
 
-done_run : (p : Program) (input cells : List ℤ) (n : ℕ) → run_of p input n (record { to_do = []; cells = cells }) ≡ ended n (record { to_do = []; cells = cells }) how.Done
+done_run : (p : Program) (input cells : List ℤ) (n : ℕ) → run_of p input n (record { to_do = []; cells = cells }) ≡ ended n
+    (record { to_do = []; cells = cells }) how.Done
 unfolding run_of
 done_run p input cells zero = refl
 done_run p input cells (suc n) = refl
@@ -39,19 +44,24 @@ ends_fuel m some e = ends_run m 0 how.Fuel (spent_fuel m some e).ends
 
 pub nothing_left : (m : MachineState) → part_of m.config.to_do ≡ part.Finished → Ends how.Done m m
 nothing_left m over =
-    let none : m.config ≡ record { to_do = []; cells = m.config.cells } = ap (λ (xs : List Stmt). record { to_do = xs; cells = m.config.cells }) (part_finished m.config.to_do over) in
+    let none : m.config ≡ record { to_do = []; cells = m.config.cells } = ap (λ (xs : List Stmt). record { to_do = xs; cells = m.config.cells })
+    (part_finished m.config.to_do over) in
     ends_run m (fuel_left m) how.Done
-    (subst (λ (c : Config). run_of m.program m.input (fuel_left m) c ≡ ended (fuel_left m) c how.Done) (sym none) (done_run m.program m.input m.config.cells (fuel_left m)))
+    (subst (λ (c : Config). run_of m.program m.input (fuel_left m) c ≡ ended (fuel_left m) c how.Done) (sym none)
+    (done_run m.program m.input m.config.cells (fuel_left m)))
 
 -- a fault was found
-pub faulted_so : (m new : MachineState) (fault : Fault) (cells : List ℕ) → m.steps < m.fuel → step m.program m.input m.config ≡ Faulted fault → new ≡ m → WatchedStep (sight.Fault fault) cells m new
-faulted_so m new fault cells less e same = subst (λ (n : MachineState). Ends (how.Fault fault) m n) (sym same) (ends_run m (fuel_left m) (how.Fault fault) (faults_next m fault less e).ends)
+pub faulted_so : (m new : MachineState) (fault : Fault) (cells : List ℕ) → m.steps < m.fuel → step m.program m.input m.config ≡ Faulted fault → new ≡ m →
+    WatchedStep (sight.Fault fault) cells m new
+faulted_so m new fault cells less e same =
+    subst (λ (n : MachineState). Ends (how.Fault fault) m n) (sym same) (ends_run m (fuel_left m) (how.Fault fault) (faults_next m fault less e).ends)
 
 -- a step was made
-pub stepped_so : (m new : MachineState) (left : Bool) (site : SiteId) (seen : Seen) (before after : List ℤ) (old loads : Loads) → m.steps < m.fuel → TurnTaken (turn.Made left site seen) m new before after →
-    Tells notes (step m.program m.input m.config) old loads → old.cells ≡ [] → loads.wanting ≡ false → WatchedStep (sight.Step site seen) loads.cells m new
+pub stepped_so : (m new : MachineState) (left : Bool) (site : SiteId) (seen : Seen) (before after : List ℤ) (old loads : Loads) → m.steps < m.fuel →
+    TurnTaken (turn.Made left site seen) m new before after →
+    TellsLoads notes (step m.program m.input m.config) old loads → old.cells ≡ [] → loads.wanting ≡ false → WatchedStep (sight.Step site seen) loads.cells m new
 stepped_so m new left site seen before after old loads less (taken, shows) tells none whole =
-    let heard : Told notes old taken.event.loads loads = subst (λ (st : Step). Tells notes st old loads) taken.stepped tells in
+    let heard : ToldLoads notes old taken.event.loads loads = subst (λ (st : Step). TellsLoads notes st old loads) taken.stepped tells in
     let run = (moved_step left m new before after less taken).run in
     record {
       event = taken.event;
@@ -61,10 +71,16 @@ stepped_so m new left site seen before after old loads less (taken, shows) tells
       trace = run.trace;
       end = run.end;
       steps = ap (λ (n : MachineState). n.steps) taken.rest;
-      rest = taken.rest ∙ (λ i. record m { config = new.config; steps = sym (ap (λ (n : MachineState). n.steps) taken.rest) i; current = sym (ap (λ (n : MachineState). n.current) taken.rest) i });
+      rest = taken.rest ∙ (λ i. record m {
+        config = new.config;
+        steps = sym (ap (λ (n : MachineState). n.steps) taken.rest) i;
+        current = sym (ap
+            (λ (n : MachineState). n.current) taken.rest) i;
+      });
     }
 
-pub step_printed : (m new : MachineState) (left : Bool) (site : SiteId) (seen : Seen) (before after : List ℤ) → TurnTaken (turn.Made left site seen) m new before after → after ≡ before ++ sight_prints (sight.Step site seen)
+pub step_printed : (m new : MachineState) (left : Bool) (site : SiteId) (seen : Seen) (before after : List ℤ) →
+    TurnTaken (turn.Made left site seen) m new before after → after ≡ before ++ sight_prints (sight.Step site seen)
 step_printed m new left site seen before after (taken, shows) =
     taken.printed ∙ ap (λ xs. before ++ xs) (sym (printed_so taken.event.effect taken.event refl) ∙ ap effect_prints (sym shows.1))
 
@@ -73,18 +89,23 @@ abbrev IsNext : MachineState → Type 0
 IsNext m = (m.steps < m.fuel) × (part_of m.config.to_do ≢ part.Finished)
 
 watch_spoiled : (m new : MachineState) (before after : List ℤ) → (m.spoiled ≡ false → IsNext m) → Spoiled 1 m new before after → WatchSpoiled m new before after
-watch_spoiled m new before after left s = record { events = s.events; configs = s.configs; moved = s.moved; within = (let few = s.within in omega (arith, few)); spoiled = s.spoiled; left = left }
+watch_spoiled m new before after left s =
+    record { events = s.events; configs = s.configs; moved = s.moved; within = (let few = s.within in omega (arith, few)); spoiled = s.spoiled; left = left }
 
 -- a machine that was spoiled before makes no step
 pub watches_no_more : (m : MachineState) (out : List ℤ) → m.spoiled ≡ true → WatchSpoiled m m out out
-watches_no_more m out h = watch_spoiled m m out out (λ fresh. (let clash : true ≡ false = sym h ∙ fresh in absurd (cc clash))) (already_spoiled 1 m out (omega arith) h)
+watches_no_more m out h =
+    watch_spoiled m m out out (λ fresh. (let clash : true ≡ false = sym h ∙ fresh in absurd (cc clash))) (already_spoiled 1 m out (omega arith) h)
 
 -- memory was wanting for the next step
-pub step_unmade : (m new : MachineState) (before after : List ℤ) → m.steps < m.fuel → part_of m.config.to_do ≢ part.Finished → new ≡ record m { spoiled = true } → after ≡ before → WatchSpoiled m new before after
-step_unmade m new before after less some is same = watch_spoiled m new before after (λ fresh. (less, some)) (wanting 1 m before new after (omega arith) (λ fresh. less) is same)
+pub step_unmade : (m new : MachineState) (before after : List ℤ) → m.steps < m.fuel → part_of m.config.to_do ≢ part.Finished →
+    new ≡ record m { spoiled = true } → after ≡ before → WatchSpoiled m new before after
+step_unmade m new before after less some is same =
+    watch_spoiled m new before after (λ fresh. (less, some)) (wanting 1 m before new after (omega arith) (λ fresh. less) is same)
 
 -- memory was wanting for what is told of the step
-pub step_untold : (m new : MachineState) (t : Turn) (before after : List ℤ) → m.steps < m.fuel → part_of m.config.to_do ≢ part.Finished → TurnTaken t m new before after → WatchSpoiled m (record new { spoiled = true }) before after
+pub step_untold : (m new : MachineState) (t : Turn) (before after : List ℤ) → m.steps < m.fuel → part_of m.config.to_do ≢ part.Finished →
+    TurnTaken t m new before after → WatchSpoiled m (record new { spoiled = true }) before after
 step_untold m new (turn.Made left site seen) before after less some (taken, shows) =
     let step = moved_step left m new before after less taken in
     record {
@@ -95,4 +116,5 @@ step_untold m new (turn.Made left site seen) before after less some (taken, show
       spoiled = refl;
       left = λ fresh. (less, some);
     }
-step_untold m new (turn.Fault fault) before after less some t = step_unmade m (record new { spoiled = true }) before after less some (ap (λ (n : MachineState). record n { spoiled = true }) t.1) t.2
+step_untold m new (turn.Fault fault) before after less some t =
+    step_unmade m (record new { spoiled = true }) before after less some (ap (λ (n : MachineState). record n { spoiled = true }) t.1) t.2

@@ -32,15 +32,15 @@ current_after region current [] = current
 current_after region current (event ∷ rest) = Some region
 
 -- the condition is still to be evaluated, or it was and no region is at the head
-abbrev pub Awaits : ℕ → Option ℕ → Config → Type 0
-Awaits region None c = part_of c.to_do ≡ Region region
-Awaits region (Some r) c = part_of c.to_do ≡ Plain
+abbrev pub AwaitsCondition : ℕ → Option ℕ → Config → Type 0
+AwaitsCondition region None c = part_of c.to_do ≡ Region region
+AwaitsCondition region (Some r) c = part_of c.to_do ≡ Plain
 
 -- the iteration hasn't ended
-pub record GoesOn (region : ℕ) (old new : MachineState) (events : List Event) : Type 0 where
+pub record IterationGoesOn (region : ℕ) (old new : MachineState) (events : List Event) : Type 0 where
   pub not_closed : has_closed old.current events ≡ false
   pub current : new.current ≡ current_after region old.current events
-  pub awaits : Awaits region new.current new.config
+  pub awaits : AwaitsCondition region new.current new.config
   pub behind : from_region new.config.to_do ≡ from_region old.config.to_do
 
 -- the condition stands at the head again, as when the iteration began
@@ -62,9 +62,9 @@ pub record HasClosed (old new : MachineState) (events : List Event) : Type 0 whe
 abbrev pub IterationStops : ℕ → ℕ → MachineState → MachineState → List Event → IterEnd → Type 0
 IterationStops region turns old new events Next = StartsAgain region old new events
 IterationStops region turns old new events Closed = HasClosed old new events
-IterationStops region turns old new events (Fault fault) = GoesOn region old new events × (length events < turns) × FaultsNext new fault
-IterationStops region turns old new events Fuel = GoesOn region old new events × HasSpentFuel new
-IterationStops region turns old new events Going = GoesOn region old new events × (new.steps < new.fuel) × (length events ≡ turns)
+IterationStops region turns old new events (Fault fault) = IterationGoesOn region old new events × (length events < turns) × FaultsNext new fault
+IterationStops region turns old new events Fuel = IterationGoesOn region old new events × HasSpentFuel new
+IterationStops region turns old new events Going = IterationGoesOn region old new events × (new.steps < new.fuel) × (length events ≡ turns)
 
 -- The call makes the steps of one iteration, at most so many, and answers why it stops.
 -- The events are those of its steps, and the configurations those before each of them.

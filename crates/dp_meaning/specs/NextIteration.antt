@@ -17,11 +17,12 @@ memory_behind_stores region vars made cells = clear_locals region vars (with_sto
 -- `closing` says whether it leaves the region.
 pub record NextIteration (region : ℕ) (m : MachineState) (made : List StoreOf) (steps : ℕ) (closing : Bool) : Type 0 where
   pub ended : has_ended (rest_of_run m) region 0 ≡ true
-  pub stores_lead : (cells : List ℤ) → memory_behind_stores region m.program.vars made cells ≡ memory_behind_stores region m.program.vars (stores_of (iteration (rest_of_run m) region 0)) cells
+  pub stores_lead : (cells : List ℤ) → memory_behind_stores region m.program.vars made cells ≡ memory_behind_stores region m.program.vars
+      (stores_of (iteration (rest_of_run m) region 0)) cells
   pub steps_are : steps ≡ length (iteration (rest_of_run m) region 0)
   pub closing_is : closing ≡ is_closing (rest_of_run m) region 0
 
 -- how `iterate` answers at the end of an iteration
-abbrev pub end_of : Bool → IterEnd
-end_of true = Closed
-end_of false = Next
+abbrev pub end_of_iteration : Bool → IterEnd
+end_of_iteration true = Closed
+end_of_iteration false = Next

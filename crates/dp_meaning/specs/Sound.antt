@@ -14,7 +14,7 @@ abbrev pub IsOrdered : List Stmt → Type 0
 IsOrdered to_do = (r : ℕ) × (regions_in_order r to_do ≡ true)
 
 -- Some statements of a region's body are left to do, and then the region and what stands behind it in `main`.
-pub record IsWithin (region : ℕ) (to_do : List Stmt) : Type 0 where
+pub record IsWithinRegion (region : ℕ) (to_do : List Stmt) : Type 0 where
   pub first : part_of to_do ≡ Plain
   pub next : part_of (from_region to_do) ≡ Region region
   pub ordered : IsOrdered (from_region to_do)
@@ -22,9 +22,9 @@ pub record IsWithin (region : ℕ) (to_do : List Stmt) : Type 0 where
 -- while an iteration is under way, the rest of its body is left to do; else statements of `main` alone
 abbrev pub UnderWay : Option ℕ → List Stmt → Type 0
 UnderWay None to_do = IsOrdered to_do
-UnderWay (Some region) to_do = IsWithin region to_do
+UnderWay (Some region) to_do = IsWithinRegion region to_do
 
-pub record IsSound (p : Program) (c : Config) (current : Option ℕ) (steps fuel : ℕ) : Type 0 where
+pub record MachineIsSound (p : Program) (c : Config) (current : Option ℕ) (steps fuel : ℕ) : Type 0 where
   pub inlined : IsInlined p
   pub stands : StandsInMain p c
   pub under_way : UnderWay current c.to_do

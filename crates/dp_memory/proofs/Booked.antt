@@ -1,7 +1,7 @@
 -- Pages with a last one behind them.
 use Rattle.std.proofs.Common.{◌≡◌, ℕ, ℤ, ◌+◌, ◌<◌, ◌≤◌, List, [], ◌∷◌, ◌++◌, length, Some, sym, ap, ◌∙◌, subst, length-append, slice_get, get_or, arith}
 use Rattle.std.proofs.Math.ListN.{set}
-use Rattle.std.proofs.lemmas.Option.{slice_get_within, get_or_from_slice_get, slice_get-get_or}
+use Rattle.std.proofs.lemmas.Option.{slice_get_within, get_or_from_slice_get}
 use Rattle.dp_memory.specs.Pieces.{HasCell, with_cell}
 use Rattle.dp_memory.proofs.Pieces.{get_right, set_left, set_right}
 use Rattle.std.proofs.lemmas.List.{get_or_append_left}
@@ -14,10 +14,6 @@ module _ (pages : List (List ℤ)) (last : List ℤ) where
   all_count = length-append pages (last ∷ [])
 
   module _ (number : ℕ) where
-    pub before_last : number < length pages → slice_get all number ≡ slice_get pages number
-    before_last lt =
-        slice_get-get_or all number [] (omega (arith, all_count, lt)) ∙ ap Some (get_or_append_left pages (last ∷ []) [] number lt) ∙ sym (slice_get-get_or pages number [] lt)
-
     pub last_there : number ≡ length pages → slice_get all number ≡ Some last
     last_there e = get_right pages (last ∷ []) number 0 (omega arith)
 
@@ -37,7 +33,8 @@ module _ (pages : List (List ℤ)) (last : List ℤ) where
       pub set_before : (value : ℤ) → number < length pages → with_cell all number place value ≡ with_cell pages number place value ++ last ∷ []
       set_before value lt =
           let written : List ℤ → List ℤ = λ (r : List ℤ). set r place value in
-          ap (λ r. set all number (written r)) (get_or_append_left pages (last ∷ []) [] number lt) ∙ set_left pages (last ∷ []) number (written (get_or pages number [])) lt
+          ap (λ r. set all number (written r)) (get_or_append_left pages (last ∷ []) [] number lt)
+          ∙ set_left pages (last ∷ []) number (written (get_or pages number [])) lt
 
       pub set_last : (value : ℤ) → number ≡ length pages → with_cell all number place value ≡ pages ++ set last place value ∷ []
       set_last value e =

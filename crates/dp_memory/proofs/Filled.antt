@@ -9,7 +9,8 @@ use Rattle.dp_memory.proofs.Pieces.{set_right}
 use Rattle.dp_memory.proofs.Held.{drop_one}
 
 module _ (cells : List ℤ) (first : ℕ) (value : ℤ) where
-  pub filled_next : (count : ℕ) → first + count < length cells → set (filled cells first count value) (first + count) value ≡ filled cells first (count + 1) value
+  pub filled_next : (count : ℕ) → first + count < length cells → set (filled cells first count value) (first + count) value ≡ filled cells
+      first (count + 1) value
   filled_next count within =
       let front = take first cells ++ replicate count value in
       let taken = length-take-le first cells (omega arith) in

@@ -30,11 +30,13 @@ module _ (groups : List (Piece (Piece ℤ))) (ok : InPieces 16 (map pages_of gro
   pub page_in : (group : Piece (Piece ℤ)) → slice_get groups (number / 16) ≡ Some group → (cells : List ℤ)
       → slice_get (pages_of group) (number % 16) ≡ Some cells → slice_get (joined (map pages_of groups)) number ≡ Some cells
   page_in group at cells there =
-      let one : slice_get (map pages_of groups) (number / 16) ≡ Some (pages_of group) = slice_get-map pages_of groups (number / 16) ∙ ap (option_map pages_of) at in
+      let one : slice_get (map pages_of groups) (number / 16) ≡ Some (pages_of group) = slice_get-map pages_of groups (number / 16)
+      ∙ ap (option_map pages_of) at in
       let place : number ≡ 16 * (number / 16) + number % 16 = omega arith in
       ap (slice_get (joined (map pages_of groups))) place ∙ joined_get 16 (map pages_of groups) ok (number / 16) (number % 16) (pages_of group) cells one there
 
-  pub page_value : (group : Piece (Piece ℤ)) (page : Piece ℤ) → slice_get groups (number / 16) ≡ Some group → slice_get (items_of group) (number % 16) ≡ Some page
+  pub page_value : (group : Piece (Piece ℤ)) (page : Piece ℤ) → slice_get groups (number / 16) ≡ Some group →
+      slice_get (items_of group) (number % 16) ≡ Some page
       → slice_get (joined (map pages_of groups)) number ≡ Some (items_of page)
   page_value group page at stands = page_in group at (items_of page) (slice_get-map items_of (items_of group) (number % 16) ∙ ap (option_map items_of) stands)
 
@@ -44,7 +46,8 @@ module _ (groups : List (Piece (Piece ℤ))) (ok : InPieces 16 (map pages_of gro
       let within = slice_get_within (joined (map pages_of groups)) number cell.0 cell.1 in
       let inside = page_there within group at in
       let long : length (map items_of (items_of group)) ≡ length (items_of group) = length-map (items_of group) items_of in
-      let one : slice_get (map pages_of groups) (number / 16) ≡ Some (pages_of group) = slice_get-map pages_of groups (number / 16) ∙ ap (option_map pages_of) at in
+      let one : slice_get (map pages_of groups) (number / 16) ≡ Some (pages_of group) = slice_get-map pages_of groups (number / 16)
+      ∙ ap (option_map pages_of) at in
       let two = slice_get-get_or (pages_of group) (number % 16) [] (omega arith) in
       let page = get_or (pages_of group) (number % 16) [] in
       let spot : number ≡ 16 * (number / 16) + number % 16 = omega arith in

@@ -13,12 +13,14 @@ use Rattle.std.specs.declared.alloc.Global.{Global}
 use Rattle.dp_memory.specs.declared.piece.Piece.{Piece}
 use Rattle.dp_memory.specs.Piece.{held, items_of, pages_of}
 
-pub held_same : {X Y : Type 0} (f : X → Y) (own other : List X) (shared : Option (Arc (Vec X Global) Global)) → map f other ≡ map f own → map f (held other shared) ≡ map f (held own shared)
+pub held_same : {X Y : Type 0} (f : X → Y) (own other : List X) (shared : Option (Arc (Vec X Global) Global)) → map f other ≡ map f own →
+    map f (held other shared) ≡ map f (held own shared)
 unfolding held
 held_same f own other None e = e
 held_same f own other (Some items) e = refl
 
-pub pages_same : (own other : List (Piece ℤ)) (shared : Option (Arc (Vec (Piece ℤ) Global) Global)) → map items_of other ≡ map items_of own → map items_of (held other shared) ≡ map items_of (held own shared)
+pub pages_same : (own other : List (Piece ℤ)) (shared : Option (Arc (Vec (Piece ℤ) Global) Global)) → map items_of other ≡ map items_of own →
+    map items_of (held other shared) ≡ map items_of (held own shared)
 pages_same own other shared e = held_same items_of own other shared e
 
 pub own_items : {X : Type 0} (own : List X) (shared : Option (Arc (Vec X Global) Global)) → shared ≡ None → held own shared ≡ own
@@ -38,7 +40,8 @@ item_at f xs i x y at there =
     cc both
 
 -- a group that is its own: what it shows, and with another page in one place
-module _ (group : Piece (Piece ℤ)) (none : group.shared ≡ None) (pages : List (List ℤ)) (same : pages_of group ≡ pages) (at : ℕ) (cells : List ℤ) (there : slice_get pages at ≡ Some cells) where
+module _ (group : Piece (Piece ℤ)) (none : group.shared ≡ None) (pages : List (List ℤ)) (same : pages_of group ≡ pages) (at : ℕ) (cells : List ℤ)
+    (there : slice_get pages at ≡ Some cells) where
   shown : map items_of group.own.items ≡ pages
   shown = ap (map items_of) (sym (own_items group.own.items group.shared none)) ∙ same
 
@@ -55,10 +58,13 @@ module _ (group : Piece (Piece ℤ)) (none : group.shared ≡ None) (pages : Lis
 
     module _ (other : Piece ℤ) where
       other_shown : map items_of (held (set group.own.items at other) group.shared) ≡ set pages at (items_of other)
-      other_shown = ap (map items_of) (own_items (set group.own.items at other) group.shared none) ∙ map-set items_of group.own.items at other ∙ ap (λ r. set r at (items_of other)) shown
+      other_shown = ap (map items_of) (own_items (set group.own.items at other) group.shared none) ∙ map-set items_of group.own.items at other
+          ∙ ap (λ r. set r at (items_of other)) shown
 
-      pub pages_set : (place : ℕ) (value : ℤ) → items_of other ≡ set (items_of page) place value → map items_of (held (set group.own.items at other) group.shared) ≡ with_cell pages at place value
-      pages_set place value e = other_shown ∙ ap (set pages at) (e ∙ ap (λ r. set r place value) (page_is ∙ sym (get_or_from_slice_get pages at cells [] there)))
+      pub pages_set : (place : ℕ) (value : ℤ) → items_of other ≡ set (items_of page) place value →
+          map items_of (held (set group.own.items at other) group.shared) ≡ with_cell pages at place value
+      pages_set place value e =
+          other_shown ∙ ap (set pages at) (e ∙ ap (λ r. set r place value) (page_is ∙ sym (get_or_from_slice_get pages at cells [] there)))
 
       pub pages_kept : items_of other ≡ items_of page → map items_of (held (set group.own.items at other) group.shared) ≡ pages
       pages_kept e = other_shown ∙ ap (set pages at) (e ∙ page_is ∙ sym (get_or_from_slice_get pages at cells [] there)) ∙ set-get_or pages at []

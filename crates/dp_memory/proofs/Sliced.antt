@@ -1,5 +1,6 @@
 -- The slices of a range of cells, one for each page.
-use Rattle.std.proofs.Common.{◌≡◌, ℕ, ℤ, ◌+◌, ◌-◌, ◌*◌, ◌/◌, ◌%◌, ◌<◌, ◌≤◌, List, length, take, drop, Some, slice_get, sym, ap, ◌∙◌, subst, take_all, ◌⊎◌, inl, inr, min, arith}
+use Rattle.std.proofs.Common.{◌≡◌, ℕ, ℤ, ◌+◌, ◌-◌, ◌*◌, ◌/◌, ◌%◌, ◌<◌, ◌≤◌, List, length, take, drop, Some, slice_get, sym, ap, ◌∙◌, subst, take_all, ◌⊎◌, inl}
+use Rattle.std.proofs.Common.{inr, min, arith}
 use Rattle.std.proofs.lemmas.List.{take-take, drop-drop, drop-take, length-take, length-take-le}
 use Rattle.std.proofs.lemmas.Option.{slice_get_within}
 use Rattle.dp_memory.specs.Pieces.{joined, InPieces}

@@ -3,12 +3,13 @@ use Rattle.std.proofs.Common.{◌≡◌, ◌<◌, ◌/◌, ◌%◌, ℕ, ℤ, Li
 use Rattle.std.proofs.Math.ListN.{set}
 use Rattle.std.proofs.Math.Seq.{map-set_same}
 use Rattle.dp_memory.specs.declared.piece.Piece.{Piece}
-use Rattle.dp_memory.specs.Piece.{held, items_of, pages_of, groups_of}
+use Rattle.dp_memory.specs.Piece.{held, pages_of, groups_of}
 use Rattle.dp_memory.specs.Pieces.{joined, InPieces, HasCell, with_cell}
 use Rattle.dp_memory.proofs.Held.{own_items, stands}
-use Rattle.dp_memory.proofs.Grouped.{group_there, page_there, cell_there, groups_set, groups_keep}
+use Rattle.dp_memory.proofs.Grouped.{group_there, cell_there, groups_set, groups_keep}
 
-module _ (list : Piece (Piece (Piece ℤ))) (none : list.shared ≡ None) (before : List (List (List ℤ))) (same : groups_of list ≡ before) (whole : InPieces 16 before)
+module _ (list : Piece (Piece (Piece ℤ))) (none : list.shared ≡ None) (before : List (List (List ℤ))) (same : groups_of list ≡ before)
+    (whole : InPieces 16 before)
     (number : ℕ) (stored : number < length (joined before)) where
   shown : map pages_of list.own.items ≡ before
   shown = ap (map pages_of) (sym (own_items list.own.items list.shared none)) ∙ same
@@ -27,9 +28,6 @@ module _ (list : Piece (Piece (Piece ℤ))) (none : list.shared ≡ None) (befor
     there : slice_get list.own.items (number / 16) ≡ Some group
     there = stands list.own.items (number / 16) group group_in is
 
-    pub page_in_group : number % 16 < length (items_of group)
-    page_in_group = page_there list.own.items grouped number stored_now group there
-
     cell_now : (place : ℕ) → HasCell (joined before) number place → HasCell (joined (map pages_of list.own.items)) number place
     cell_now place cell = subst (λ r. HasCell (joined r) number place) (sym shown) cell
 
@@ -40,13 +38,16 @@ module _ (list : Piece (Piece (Piece ℤ))) (none : list.shared ≡ None) (befor
       set_groups : map pages_of (held (set list.own.items (number / 16) other) list.shared) ≡ map pages_of (set list.own.items (number / 16) other)
       set_groups = ap (map pages_of) (own_items (set list.own.items (number / 16) other) list.shared none)
 
-      pub still_whole : length (pages_of other) ≡ length (pages_of group) → InPieces 16 (map pages_of (held (set list.own.items (number / 16) other) list.shared))
+      pub still_whole : length (pages_of other) ≡ length (pages_of group) →
+          InPieces 16 (map pages_of (held (set list.own.items (number / 16) other) list.shared))
       still_whole long = subst (λ r. InPieces 16 r) (sym set_groups) (groups_keep list.own.items grouped number group other there long)
 
       pub still_shown : pages_of other ≡ pages_of group → map pages_of (held (set list.own.items (number / 16) other) list.shared) ≡ before
       still_shown e = set_groups ∙ map-set_same pages_of list.own.items (number / 16) other group (e ∙ ap pages_of is) ∙ shown
 
-      pub cell_written : (place : ℕ) (value : ℤ) → HasCell (joined before) number place → pages_of other ≡ with_cell (pages_of group) (number % 16) place value →
+      pub cell_written : (place : ℕ) (value : ℤ) → HasCell (joined before) number place →
+          pages_of other ≡ with_cell (pages_of group) (number % 16) place value →
           joined (map pages_of (held (set list.own.items (number / 16) other) list.shared)) ≡ with_cell (joined before) number place value
       cell_written place value cell e =
-          ap joined set_groups ∙ groups_set list.own.items grouped number group other there place value (cell_now place cell) e ∙ ap (λ r. with_cell (joined r) number place value) shown
+          ap joined set_groups ∙ groups_set list.own.items grouped number group other there place value (cell_now place cell) e
+          ∙ ap (λ r. with_cell (joined r) number place value) shown

@@ -1,6 +1,6 @@
 -- A list in pieces of one size, of which the last may be shorter.
-use Rattle.std.specs.Prelude.{◌≡◌, ℕ, ℤ, ◌+◌, ◌*◌, ◌/◌, ◌-◌, ◌%◌, ◌<◌, ◌≤◌, List, [], ◌∷◌, ◌++◌, length, take, drop, replicate, slice_get, slice_set, slice_index_or, Some}
-use Rattle.dp_room.specs.Lends.{with_items}
+use Rattle.std.specs.Prelude.{◌≡◌, ℕ, ℤ, ◌+◌, ◌*◌, ◌-◌, ◌%◌, ◌<◌, ◌≤◌, List, [], ◌∷◌, ◌++◌, length, take, drop, replicate, slice_get, slice_set, slice_index_or}
+use Rattle.std.specs.Prelude.{Some}
 
 -- the pieces, one after the other
 unfoldable pub joined : {X : Type 0} → List (List X) → List X
@@ -11,15 +11,6 @@ joined (piece ∷ rest) = piece ++ joined rest
 unfoldable pub InPieces : {X : Type 0} → ℕ → List (List X) → Type 0
 InPieces size [] = Unit {0}
 InPieces size (piece ∷ rest) = (length piece ≤ size) × (0 < length rest → length piece ≡ size) × InPieces size rest
-
--- the cells of the page that has this cell
-abbrev pub page_at : List ℤ → ℕ → List ℤ
-page_at cells place = take 256 (drop (256 * (place / 256)) cells)
-
--- the cells with others written over that page from its front
-abbrev pub with_page : List ℤ → ℕ → List ℤ → List ℤ
-with_page cells place written =
-    take (256 * (place / 256)) cells ++ with_items (page_at cells place) written ++ drop (256 * (place / 256) + 256) cells
 
 -- the cells with one number in so many of them, from a place on
 abbrev pub filled : List ℤ → ℕ → ℕ → ℤ → List ℤ

@@ -1,6 +1,5 @@
 //! All pages of a version.
 ghost use Rattle.std.specs.Prelude.{◌≡◌, ◌≤◌, ◌<◌, Some, length, slice_get, IfOk, MatchOption, OnOk, OnErr};
-ghost use Rattle.std.specs.Borrow.{sem};
 
 use crate::table::Table;
 use dp_base::NoMemory;
@@ -29,7 +28,7 @@ fn filled(room: Vec<i64>, items: &[i64]) -> Result<Vec<i64>, NoMemory>
 
 impl Book {
     ghost use Rattle.dp_memory.specs.Pieces.{HasCell, with_cell, joined, InPieces};
-    ghost use Rattle.dp_memory.specs.Book.{book_pages, IsBook, IsOwnAt, lends_page};
+    ghost use Rattle.dp_memory.specs.Book.{book_pages, IsBook};
 
     /// A book of pages of these cells.
     pub(crate) fn of(alloc: Global, cells: &[i64]) -> Result<Book, NoMemory>
@@ -47,7 +46,7 @@ impl Book {
     }
 
     /// The cells of a page.
-    #[inline]
+    #[inline(always)]
     pub(crate) fn page(&self, number: usize) -> &[i64]
         requires book { IsBook self.now }
         requires within { number < length (book_pages self.now) }
@@ -61,7 +60,7 @@ impl Book {
     }
 
     /// The cells of a page, if there is one.
-    #[inline]
+    #[inline(always)]
     pub(crate) fn find(&self, number: usize) -> Option<&[i64]>
         requires { IsBook self.now }
         ensures { MatchOption result (length (book_pages self.now) ≤ number) (λ page. slice_get (book_pages self.now) number ≡ Some page.now) }
@@ -73,7 +72,7 @@ impl Book {
     }
 
     /// Puts a number into a cell of a page, after a copy of what other books share.
-    #[inline]
+    #[inline(always)]
     pub(crate) fn set(
         &mut self,
         alloc: Global,
@@ -93,36 +92,6 @@ impl Book {
         }
         self.last[place] = value;
         Ok(())
-    }
-
-    /// Makes a page, and the lists that it stands in, the book's own.
-    pub(crate) fn own_page(&mut self, alloc: Global, number: usize) -> Result<(), NoMemory>
-        requires book { IsBook self.old }
-        requires within { number < length (book_pages self.old) }
-        ensures book { IsBook self.new }
-        ensures ok { OnOk result (IsOwnAt self.new number) }
-        ensures wanting { OnErr result (number < self.old.before) }
-        ensures same { book_pages self.new ≡ book_pages self.old }
-    {
-        if number < self.before {
-            return self.table.own_page(alloc, number);
-        }
-        Ok(())
-    }
-
-    /// The book's own page, for writing. What is written through the borrow stands there once it ends.
-    pub(crate) fn page_mut(&mut self, number: usize) -> &mut [i64]
-        requires own { IsOwnAt self.old number }
-        requires book { IsBook self.old }
-        requires within { number < length (book_pages self.old) }
-        ensures* writes_back { sem 𝓛 (lends_page self.entry number result) }
-        ensures value { slice_get (book_pages self.old) number ≡ Some result.now }
-    {
-        if number < self.before {
-            self.table.page_mut(number)
-        } else {
-            self.last.as_mut_slice()
-        }
     }
 
     /// Another book with the same pages. Its last page takes over this room.

@@ -1,8 +1,7 @@
 //! Sixteen pages, which are shared together.
-ghost use Rattle.std.specs.Prelude.{◌≡◌, ◌<◌, None, Some, length, map, slice_get, IfOk, OnOk, OnErr};
-ghost use Rattle.std.specs.Borrow.{sem};
-ghost use Rattle.dp_memory.specs.Pieces.{HasCell, with_cell, joined, InPieces, ArePagesOf};
-ghost use Rattle.dp_memory.specs.Piece.{items_of, pages_of, groups_of, IsOwnPage, IsOwnAmong, lends_own_page, lends_page_among};
+ghost use Rattle.std.specs.Prelude.{◌≡◌, ◌<◌, None, Some, map, IfOk, OnOk, OnErr};
+ghost use Rattle.dp_memory.specs.Pieces.{HasCell, with_cell, ArePagesOf};
+ghost use Rattle.dp_memory.specs.Piece.{items_of, pages_of};
 
 use crate::piece::Piece;
 use dp_base::NoMemory;
@@ -104,38 +103,6 @@ pub(crate) fn set(
     let page = &mut group.own[at];
     page.set(alloc, place, value)?;
     Ok(())
-}
-
-/// Makes a page of the group, and the list that it stands in, the group's own.
-pub(crate) fn own_page(group: &mut Group, alloc: Global, at: usize) -> Result<(), NoMemory>
-    requires { at < length (pages_of group.old) }
-    ensures ok { OnOk result (IsOwnPage group.new at) }
-    ensures same { pages_of group.new ≡ pages_of group.old }
-{
-    unshare(group, alloc)?;
-    let page = &mut group.own[at];
-    page.unshare(alloc)
-}
-
-/// The group's own page, for writing. What is written through the borrow stands there once it ends.
-pub(crate) fn page_mut(group: &mut Group, at: usize) -> &mut [i64]
-    requires { IsOwnPage group.old at }
-    ensures* writes_back { sem 𝓛 (lends_own_page group.entry at result) }
-    ensures value { slice_get (pages_of group.old) at ≡ Some result.now }
-{
-    let page = &mut group.own[at];
-    page.as_mut_slice()
-}
-
-/// The same for the page of this number in a list of groups.
-pub(crate) fn numbered_page_mut(groups: &mut Piece<Group>, number: usize) -> &mut [i64]
-    requires own { IsOwnAmong groups.old number }
-    requires groups { InPieces 16 (groups_of groups.old) }
-    ensures* writes_back { sem 𝓛 (lends_page_among groups.entry number result) }
-    ensures value { slice_get (joined (groups_of groups.old)) number ≡ Some result.now }
-{
-    let group = &mut groups.own[number / 16];
-    page_mut(group, number % 16)
 }
 
 /// Pages of these cells, 256 in each but the last.

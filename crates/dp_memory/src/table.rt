@@ -1,6 +1,5 @@
 //! The pages of a version but the last one.
 ghost use Rattle.std.specs.Prelude.{◌≡◌, ◌<◌, Some, None, length, slice_get, IfOk, OnOk, OnErr};
-ghost use Rattle.std.specs.Borrow.{sem};
 
 use crate::group;
 use crate::group::Group;
@@ -15,9 +14,9 @@ pub(crate) struct Table {
 }
 
 impl Table {
-    ghost use Rattle.dp_memory.specs.Piece.{groups_of, IsOwnAmong};
+    ghost use Rattle.dp_memory.specs.Piece.{groups_of};
     ghost use Rattle.dp_memory.specs.Pieces.{HasCell, with_cell, ArePagesOf};
-    ghost use Rattle.dp_memory.specs.Table.{table_pages, InGroups, lends_page};
+    ghost use Rattle.dp_memory.specs.Table.{table_pages, InGroups};
 
     /// A table of pages of these cells.
     pub(crate) fn of(alloc: Global, cells: &[i64]) -> Result<Table, NoMemory>
@@ -58,7 +57,9 @@ impl Table {
         self.groups.as_slice()[number / 16].as_slice()[number % 16].as_slice()
     }
 
-    /// Puts a number into a cell of a page, after a copy of what other tables share.
+    /// Puts a number into a cell of a page, after a copy of what other tables share. It is out of line, since most stores are into
+    /// a book's last page.
+    #[inline(never)]
     pub(crate) fn set(
         &mut self,
         alloc: Global,
@@ -76,28 +77,6 @@ impl Table {
         let group = &mut self.groups.own[number / 16];
         group::set(group, alloc, number % 16, place, value)?;
         Ok(())
-    }
-
-    /// Makes a page, and the lists that it stands in, the table's own.
-    pub(crate) fn own_page(&mut self, alloc: Global, number: usize) -> Result<(), NoMemory>
-        requires groups { InGroups self.old }
-        requires within { number < length (table_pages self.old) }
-        ensures ok { OnOk result (IsOwnAmong self.new.groups number) }
-        ensures same { groups_of self.new.groups ≡ groups_of self.old.groups }
-    {
-        self.unshare(alloc)?;
-        let group = &mut self.groups.own[number / 16];
-        group::own_page(group, alloc, number % 16)
-    }
-
-    /// The table's own page, for writing. What is written through the borrow stands there once it ends.
-    pub(crate) fn page_mut(&mut self, number: usize) -> &mut [i64]
-        requires own { IsOwnAmong self.old.groups number }
-        requires groups { InGroups self.old }
-        ensures* writes_back { sem 𝓛 (lends_page self.entry number result) }
-        ensures value { slice_get (table_pages self.old) number ≡ Some result.now }
-    {
-        group::numbered_page_mut(&mut self.groups, number)
     }
 
     /// Another table that shares the pages. Where there are none, as in a small program, it is an empty one of its own, so

@@ -1,8 +1,6 @@
 //! A version of a program's memory.
-ghost use Rattle.std.specs.Prelude.{◌≡◌, ◌+◌, ◌<◌, ◌≤◌, ◌⊎◌, [], take, drop, length, slice_get, slice_set, Some, IfOk, OnOk, OnErr};
-ghost use Rattle.std.specs.Borrow.{sem};
-ghost use Rattle.dp_memory.specs.Pieces.{page_at, filled};
-ghost use Rattle.dp_memory.specs.Lends.{lends_page};
+ghost use Rattle.std.specs.Prelude.{◌≡◌, ◌+◌, ◌<◌, ◌≤◌, take, drop, length, slice_get, slice_set, Some, IfOk, OnOk, OnErr};
+ghost use Rattle.dp_memory.specs.Pieces.{filled};
 
 use crate::book::Book;
 use crate::pages::Pages;
@@ -16,12 +14,10 @@ use std::marker::Model;
 pub struct Version {
     alloc: Global,
     book: Book,
-    /// It is empty, and lent where memory for a page is wanting.
-    none: Vec<i64>,
 }
 
 impl Model for Version {
-    ghost use Rattle.std.specs.Prelude.{◌≡◌, ℤ, List, []};
+    ghost use Rattle.std.specs.Prelude.{ℤ, List};
     ghost use Rattle.std.specs.Coded.{coded_list, coded_ℤ};
     ghost use Rattle.dp_memory.specs.Pieces.{joined, InPieces};
     ghost use Rattle.dp_memory.specs.Book.{book_pages, IsBook};
@@ -32,12 +28,11 @@ impl Model for Version {
 
     ghost view = { λ version. joined (book_pages version.book) };
 
-    ghost invariant = { λ version. IsBook version.book × InPieces 256 (book_pages version.book)
-        × (version.none.items ≡ []) };
+    ghost invariant = { λ version. IsBook version.book × InPieces 256 (book_pages version.book) };
 }
 
 /// The number at a place, if there is one.
-#[inline]
+#[inline(always)]
 fn at(page: &[i64], place: usize) -> Option<i64>
     ensures { result ≡ slice_get page.now place }
 {
@@ -64,11 +59,7 @@ impl Version {
         ensures { IfOk result (λ version. version ≡ cells.now) }
     {
         let book = Book::of(alloc, cells.as_slice())?;
-        Ok(Version {
-            alloc,
-            book,
-            none: Vec::new(alloc),
-        })
+        Ok(Version { alloc, book })
     }
 
     /// The number in a cell. It takes no memory.
@@ -82,7 +73,7 @@ impl Version {
     }
 
     /// The number in a cell, if there is one. It takes no memory.
-    #[inline]
+    #[inline(always)]
     pub fn find(&self, cell: CellId) -> Option<i64>
         ensures { result ≡ slice_get self.now cell.0 }
     {
@@ -106,7 +97,7 @@ impl Version {
     }
 
     /// Puts a number into a cell. At `Err` the version is as it was.
-    #[inline]
+    #[inline(always)]
     pub fn set(&mut self, cell: CellId, value: i64) -> Result<(), NoMemory>
         requires { cell.0 < length self.old }
         ensures ok { OnOk result (self.new ≡ slice_set self.old cell.0 value) }
@@ -116,7 +107,7 @@ impl Version {
     }
 
     /// The same, for a place from 0.
-    #[inline]
+    #[inline(always)]
     fn put(&mut self, place: usize, value: i64) -> Result<(), NoMemory>
         requires { place < length self.old }
         ensures ok { OnOk result (self.new ≡ slice_set self.old place value) }
@@ -139,20 +130,6 @@ impl Version {
         Ok(version)
     }
 
-    /// Lends the cells of a cell's page for writing. What is written through the borrow stands in the version once it
-    /// ends. Where memory for a page of its own is wanting, no cell is lent.
-    pub fn page_mut(&mut self, cell: CellId) -> &mut [i64]
-        requires { cell.0 < length self.old }
-        ensures* writes_back { sem 𝓛 (lends_page self.entry cell.0 result) }
-        ensures value { (result.now ≡ []) ⊎ (result.now ≡ page_at self.old cell.0) }
-    {
-        let number = cell.0 as usize / 256;
-        match self.book.own_page(self.alloc, number) {
-            Ok(()) => self.book.page_mut(number),
-            Err(_) => self.none.as_mut_slice(),
-        }
-    }
-
     /// The room of the version's last page, for another version. All else that it holds is given back.
     pub fn into_room(self) -> VersionRoom {
         VersionRoom {
@@ -171,7 +148,6 @@ impl Version {
         Ok(Version {
             alloc: self.alloc,
             book,
-            none: Vec::new(self.alloc),
         })
     }
 }

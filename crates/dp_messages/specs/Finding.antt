@@ -7,7 +7,7 @@ use Rattle.dp_words.specs.Words.{Asked, Asks, AsksNothing, ToMake}
 use Rattle.dp_refusal.specs.declared.role.Role.{Role}
 use Rattle.dp_refusal.specs.declared.refusal.Refusal.{Refusal}
 use Rattle.dp_refusal.specs.declared.refusal.Refusal.TheVariants.{Words}
-use Rattle.dp_load.specs.Last.{Behind}
+use Rattle.dp_load.specs.Last.{LastText}
 use Rattle.dp_load.specs.Order.{ReadsAll}
 use Rattle.dp_load.specs.Roles.{Contents}
 use Rattle.dp_messages.specs.declared.reason.Finding.{Finding}
@@ -16,7 +16,9 @@ use Rattle.dp_messages.specs.declared.reason.Finding.TheVariants.{Refused, Unrea
 -- What is found is so, with the shelf's faults before and after: the refusal that the definitions give, a read that failed, or that nothing is refused.
 pub data Finds (words : List (List ℕ)) (contents : Contents) (faults after : ℕ) : Finding → Type 0 where
   NotTaken : AsksNothing words → after ≡ faults → Finds words contents faults after (Refused Words)
-  IsRefused : (asked : Asked) (refusal : Refusal) → Asks words asked → ReadsAll contents asked (Err refusal) → after ≡ faults → Finds words contents faults after (Refused refusal)
+  IsRefused : (asked : Asked) (refusal : Refusal) → Asks words asked → ReadsAll contents asked (Err refusal) → after ≡ faults →
+      Finds words contents faults after (Refused refusal)
   IsUnread : (role : Role) → faults < after → Finds words contents faults after (Unread role)
-  IsRead : (asked : Asked) (read : (((Program × List ℤ) × List (List ℤ)) × List Plan) × Behind) → Asks words asked → ReadsAll contents asked (Ok read) → after ≡ faults → Finds words contents faults after Nothing
+  IsRead : (asked : Asked) (read : (((Program × List ℤ) × List (List ℤ)) × List Plan) × LastText) → Asks words asked → ReadsAll contents asked (Ok read) →
+      after ≡ faults → Finds words contents faults after Nothing
   IsMade : (made : GenWords) → Asks words (ToMake made) → after ≡ faults → Finds words contents faults after Nothing

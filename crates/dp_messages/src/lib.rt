@@ -1,10 +1,11 @@
 //! What people are told on standard error: why something is refused, with the place in its text, how words are used, how
-//! a run ended, and how far it is.
+//! a run ended, how far it is, and by which plans its regions were run.
 #![tactic(auto)]
 
 mod advice;
 mod answer;
 mod byte;
+mod choices;
 mod counts;
 mod expected;
 mod files;
@@ -31,6 +32,7 @@ mod telling;
 mod tokens;
 mod unread;
 
+pub use choices::{Choices, asks_choices, tell_choices};
 pub use kept::Kept;
 pub use progress::Line;
 pub use reason::{Finding, why};

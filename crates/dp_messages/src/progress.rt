@@ -1,7 +1,8 @@
 //! One line that tells how far a run is.
+use crate::choices::Choices;
 use crate::page::Page;
 use crate::shown::Shown;
-use dp_commit::{Progress, Watch};
+use dp_commit::{Chosen, Progress, Watch};
 use std::alloc::Global;
 use std::time::{Clock, Duration, Instant};
 
@@ -13,7 +14,7 @@ const FIRST: u64 = 1_000;
 
 const EVERY: u64 = 250;
 
-/// A watch that shows how far a run is.
+/// A watch that shows how far a run is, and keeps by which plans its regions were run.
 #[derive(Drop)]
 pub struct Line<'r, 's, 'p, R, P: Print> {
     alloc: Global,
@@ -23,15 +24,17 @@ pub struct Line<'r, 's, 'p, R, P: Print> {
     begun: Option<Instant>,
     looked: u64,
     next: u64,
+    choices: Choices,
 }
 
 impl<'r, 's, 'p, R: Clock, P: Print> Line<'r, 's, 'p, R, P> {
-    /// A line that is shown, or none.
+    /// A line that is shown, or none; and choices that are kept, where they are asked for.
     pub fn new(
         alloc: Global,
         clock: &'r R,
         shown: &'s Shown<'p, P>,
         on: bool,
+        choices: Choices,
     ) -> Line<'r, 's, 'p, R, P> {
         let begun = if on { Instant::now(clock).ok() } else { None };
         Line {
@@ -41,7 +44,13 @@ impl<'r, 's, 'p, R: Clock, P: Print> Line<'r, 's, 'p, R, P> {
             begun,
             looked: 0,
             next: FIRST,
+            choices,
         }
+    }
+
+    /// By which plans regions were run so far.
+    pub fn choices(&self) -> &Choices {
+        &self.choices
     }
 
     /// Shows how far the run is, where it is time to.
@@ -69,6 +78,10 @@ impl<R: Clock, P: Print> Watch for Line<'_, '_, '_, R, P> {
             self.looked = progress.steps;
             self.look(progress);
         }
+    }
+
+    fn chose(&mut self, region: u32, chosen: Chosen) {
+        self.choices.add(region, chosen);
     }
 }
 

@@ -60,7 +60,8 @@ fn why_run<S: Shelf>(alloc: Global, run: RunWords, shelf: &mut S) -> Result<Find
     requires run { RunWithin (shown run) }
     requires shelf { S.faults shelf.old < 2 ^ 64 - 1 }
     ensures contents { S.contents shelf.new ≡ S.contents shelf.old }
-    ensures finds { (words : List (List ℕ)) (asked : Asked) → ReadsRunAlone asked (shown run.entry) → Asks words asked → IfOk result (Finds words (S.contents shelf.old) (S.faults shelf.old) (S.faults shelf.new)) }
+    ensures finds { (words : List (List ℕ)) (asked : Asked) → ReadsRunAlone asked (shown run.entry) → Asks words asked →
+        IfOk result (Finds words (S.contents shelf.old) (S.faults shelf.old) (S.faults shelf.new)) }
 {
     let texts = load_texts(alloc, run, shelf)?;
     Ok(found_in_run(&texts))
@@ -75,7 +76,8 @@ fn why_audit<S: Shelf>(
     requires run { RunWithin (shown run) }
     requires shelf { S.faults shelf.old < 2 ^ 64 - 1 }
     ensures contents { S.contents shelf.new ≡ S.contents shelf.old }
-    ensures finds { (words : List (List ℕ)) → Asks words (ToAudit (shown run.entry) log.now) → IfOk result (Finds words (S.contents shelf.old) (S.faults shelf.old) (S.faults shelf.new)) }
+    ensures finds { (words : List (List ℕ)) → Asks words (ToAudit (shown run.entry) log.now) →
+        IfOk result (Finds words (S.contents shelf.old) (S.faults shelf.old) (S.faults shelf.new)) }
 {
     match load_texts(alloc, run, shelf)? {
         Texts::Run(_, _, _) => {}
@@ -95,7 +97,8 @@ fn why_resume<S: Shelf>(
     requires run { RunWithin (shown run) }
     requires shelf { S.faults shelf.old < 2 ^ 64 - 1 }
     ensures contents { S.contents shelf.new ≡ S.contents shelf.old }
-    ensures finds { (words : List (List ℕ)) → Asks words (ToResume (shown run.entry) name.now) → IfOk result (Finds words (S.contents shelf.old) (S.faults shelf.old) (S.faults shelf.new)) }
+    ensures finds { (words : List (List ℕ)) → Asks words (ToResume (shown run.entry) name.now) →
+        IfOk result (Finds words (S.contents shelf.old) (S.faults shelf.old) (S.faults shelf.new)) }
 {
     let program = match load_texts(alloc, run, shelf)? {
         Texts::Run(program, _, _) => program,
@@ -115,7 +118,8 @@ fn why_batch<S: Shelf>(
     requires run { RunWithin (shown run) }
     requires shelf { S.faults shelf.old < 2 ^ 64 - 1 }
     ensures contents { S.contents shelf.new ≡ S.contents shelf.old }
-    ensures finds { (words : List (List ℕ)) → Asks words (ToBatch (shown run.entry) list.now) → IfOk result (Finds words (S.contents shelf.old) (S.faults shelf.old) (S.faults shelf.new)) }
+    ensures finds { (words : List (List ℕ)) → Asks words (ToBatch (shown run.entry) list.now) →
+        IfOk result (Finds words (S.contents shelf.old) (S.faults shelf.old) (S.faults shelf.new)) }
 {
     let texts = load_batch(alloc, run, list, shelf)?;
     Ok(found_in_batch(&texts))
@@ -125,7 +129,8 @@ fn why_plan<S: Shelf>(alloc: Global, plan: PlanWords, shelf: &mut S) -> Result<F
     requires options { OptionsWithin plan.options }
     requires shelf { S.faults shelf.old < 2 ^ 64 - 1 }
     ensures contents { S.contents shelf.new ≡ S.contents shelf.old }
-    ensures finds { (words : List (List ℕ)) (asked : Asked) → ReadsLeastPlans asked (shown_planning plan.entry) → Asks words asked → IfOk result (Finds words (S.contents shelf.old) (S.faults shelf.old) (S.faults shelf.new)) }
+    ensures finds { (words : List (List ℕ)) (asked : Asked) → ReadsLeastPlans asked (shown_planning plan.entry) → Asks words asked →
+        IfOk result (Finds words (S.contents shelf.old) (S.faults shelf.old) (S.faults shelf.new)) }
 {
     let program = match load_program(alloc, shelf, plan.program)? {
         Loaded::Text(program) => program,
@@ -139,7 +144,8 @@ fn why_plan<S: Shelf>(alloc: Global, plan: PlanWords, shelf: &mut S) -> Result<F
 fn why_program<S: Shelf>(alloc: Global, name: &str, shelf: &mut S) -> Result<Finding, NoMemory>
     requires { S.faults shelf.old < 2 ^ 64 - 1 }
     ensures contents { S.contents shelf.new ≡ S.contents shelf.old }
-    ensures finds { (words : List (List ℕ)) (asked : Asked) → ReadsProgramAlone asked name.now → Asks words asked → IfOk result (Finds words (S.contents shelf.old) (S.faults shelf.old) (S.faults shelf.new)) }
+    ensures finds { (words : List (List ℕ)) (asked : Asked) → ReadsProgramAlone asked name.now → Asks words asked →
+        IfOk result (Finds words (S.contents shelf.old) (S.faults shelf.old) (S.faults shelf.new)) }
 {
     let program = load_program(alloc, shelf, name)?;
     Ok(found_in(&program, Role::Program))
@@ -152,7 +158,8 @@ fn why_profile<S: Shelf>(
 ) -> Result<Finding, NoMemory>
     requires { S.faults shelf.old < 2 ^ 64 - 1 }
     ensures contents { S.contents shelf.new ≡ S.contents shelf.old }
-    ensures finds { (words : List (List ℕ)) → Asks words (ToProfile (shown_profiling profile.entry)) → IfOk result (Finds words (S.contents shelf.old) (S.faults shelf.old) (S.faults shelf.new)) }
+    ensures finds { (words : List (List ℕ)) → Asks words (ToProfile (shown_profiling profile.entry)) →
+        IfOk result (Finds words (S.contents shelf.old) (S.faults shelf.old) (S.faults shelf.new)) }
 {
     match load_program(alloc, shelf, profile.program)? {
         Loaded::Text(_) => {}

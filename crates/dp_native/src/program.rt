@@ -31,5 +31,6 @@ pub trait NativeProgram {
         out: &mut Row<i64>,
     ) -> (u32, u64)
         ensures { (p : Tree) → IsInlined p → suits self.now p → part_of (rest_at p place) ≡ Plain →
-            Reaches p input.now fuel out.old (config_at p (record { place = place; cells = cells.old })) result.1 out.new (standing p (rest_at p result.0) cells.new) };
+            Reaches p input.now fuel out.old (config_at p (record { place = place; cells = cells.old })) result.1 out.new
+            (standing p (rest_at p result.0) cells.new) };
 }

@@ -1,6 +1,7 @@
 -- The last packet of a batch that ends early isn't judged to go on.
 use Rattle.dp_net.proofs.ToldAlike.{SameVerdict}
-use Rattle.dp_semantics.proofs.Names.{◌≡◌, refl, sym, ap, ◌∙◌, ℕ, Bool, true, false, not, length, Option, Some, None, Stmt, Judgement, Clean, Unclean, Status, Closing}
+use Rattle.dp_semantics.proofs.Names.{◌≡◌, refl, sym, ap, ◌∙◌, ℕ, Bool, true, false, not, length, Option, Some, None, Stmt, Judgement, Clean, Unclean, Status}
+use Rattle.dp_semantics.proofs.Names.{Closing}
 use Rattle.dp_semantics.specs.EpochKey.{EpochKey, epoch_of}
 use Rattle.dp_semantics.specs.EpochVerdicts.{goes_on, judgement_of}
 use Rattle.dp_semantics.proofs.Setting.{Accepted}

@@ -1,5 +1,6 @@
 -- The end of a batch's verdict tells the verdicts on its iterations.
-use Rattle.dp_semantics.proofs.Names.{◌≡◌, refl, sym, ap, ◌∙◌, subst, arith, ℕ, zero, suc, ◌+◌, Bool, true, false, not, if◌then◌else◌, List, ◌∷◌, map, numbers_from}
+use Rattle.dp_semantics.proofs.Names.{◌≡◌, refl, sym, ap, ◌∙◌, subst, arith, ℕ, zero, suc, ◌+◌, Bool, true, false, not, if◌then◌else◌, List, ◌∷◌, map}
+use Rattle.dp_semantics.proofs.Names.{numbers_from}
 use Rattle.dp_base.specs.declared.Cause.{Cause as ReportedCause}
 use Rattle.dp_semantics.specs.EpochKey.{EpochKey}
 use Rattle.dp_semantics.specs.EpochVerdicts.{Carried, Verdict, Commit, Again, goes_on, verdict_at}
@@ -47,7 +48,8 @@ module _ (key : EpochKey) where
     recovers = λ other e. (subst (GoesOnTo key) (here k) before, ap (verdict_at key) (sym (here k)) ∙ is ∙ ap Again (same_cause cause other e));
   }
 
-  one_closes : (k n : ℕ) (w : Carried) → GoesOnTo key k → verdict_at key k ≡ Commit w → w.closing ≡ true → BatchMeans key k n (with_front w (nothing_but BatchCloses))
+  one_closes : (k n : ℕ) (w : Carried) → GoesOnTo key k → verdict_at key k ≡ Commit w → w.closing ≡ true →
+      BatchMeans key k n (with_front w (nothing_but BatchCloses))
   one_closes k n w before is closing = record {
     goes = λ e. absurd (closes_onward e);
     closes = λ e. (0, w, refl, subst (GoesOnTo key) (here k) before, ap (verdict_at key) (sym (here k)) ∙ is, closing);
@@ -60,8 +62,10 @@ module _ (key : EpochKey) where
   front_means : (k n : ℕ) (w : Carried) (v : BatchVerdict) → BatchMeans key (k + 1) n v → BatchMeans key k (suc n) (with_front w v)
   front_means k n w v rest = record {
     goes = λ e. let r = rest.goes e in (ap suc r.0, subst (GoesOnTo key) (further k n) r.1);
-    closes = λ e. let r = rest.closes e in (suc r.0, r.1, ap suc r.2, subst (GoesOnTo key) (further k r.0) r.3, ap (verdict_at key) (sym (further k r.0)) ∙ r.4, r.5);
-    recovers = λ cause e. let r = rest.recovers cause e in (subst (GoesOnTo key) (further k v.iterations) r.0, ap (verdict_at key) (sym (further k v.iterations)) ∙ r.1);
+    closes = λ e. let r = rest.closes e in
+        (suc r.0, r.1, ap suc r.2, subst (GoesOnTo key) (further k r.0) r.3, ap (verdict_at key) (sym (further k r.0)) ∙ r.4, r.5);
+    recovers = λ cause e. let r = rest.recovers cause e in
+        (subst (GoesOnTo key) (further k v.iterations) r.0, ap (verdict_at key) (sym (further k v.iterations)) ∙ r.1);
   }
 
   together_means : (n k : ℕ) → GoesOnTo key k → BatchMeans key k n (together (map (verdict_at key) (numbers_from k n)))
@@ -76,7 +80,8 @@ module _ (key : EpochKey) where
       by_closing w is true e go = one_closes k (suc n) w before is e
       by_closing w is false e go = front_means k n w (together rest) (go refl)
 
-      by : (v : Verdict) → verdict_at key k ≡ v → (goes_on (verdict_at key k) ≡ true → BatchMeans key (k + 1) n (together rest)) → BatchMeans key k (suc n) (together (v ∷ rest))
+      by : (v : Verdict) → verdict_at key k ≡ v → (goes_on (verdict_at key k) ≡ true → BatchMeans key (k + 1) n (together rest)) →
+          BatchMeans key k (suc n) (together (v ∷ rest))
       by (Commit w) is go = by_closing w is w.closing refl (λ still. go (ap goes_on is ∙ ap not still))
       by (Again cause) is go = one_recovers k (suc n) cause before is
 

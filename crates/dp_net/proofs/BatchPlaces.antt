@@ -1,5 +1,6 @@
 -- A batch that goes on is whole, and one that may follow has an iteration.
-use Rattle.dp_semantics.proofs.Names.{◌≡◌, refl, sym, ap, ◌∙◌, inl, inr, ℕ, zero, suc, ◌+◌, ◌-◌, ◌≤◌, Bool, true, false, not, if◌then◌else◌, List, [], ◌∷◌, length, length-map, map, arith, lt-ltb, cases_lt, list_all, and_parts}
+use Rattle.dp_semantics.proofs.Names.{◌≡◌, refl, sym, ap, ◌∙◌, inl, inr, ℕ, zero, suc, ◌+◌, ◌-◌, ◌≤◌, Bool, true, false, not, if◌then◌else◌, List, [], ◌∷◌}
+use Rattle.dp_semantics.proofs.Names.{length, length-map, map, arith, lt-ltb, cases_lt, list_all, and_parts}
 use Rattle.std.specs.Prelude.{min, max}
 use Rattle.std.proofs.Math.Nat.{le-min, le-max_left}
 use Rattle.dp_tree.specs.Numbering.{numbers_from}

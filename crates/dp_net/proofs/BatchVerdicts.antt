@@ -1,5 +1,7 @@
 -- What is decided of a batch follows from the verdicts on its iterations.
-use Rattle.dp_semantics.proofs.Names.{◌≡◌, inl, inr, refl, sym, ap, ◌∙◌, ℕ, zero, suc, ◌+◌, ◌≤◌, Bool, true, false, not, if◌then◌else◌, List, [], ◌∷◌, ◌++◌, ℤ, pos, length, length-set, map, arith, get_or, slice_set, get_or-set_at, get_or-set_other, list_any, cases_Bool, cases_eq, cases_lt, clear_locals, is_local_cell, numbers_from, Judgement, Clean, Unclean}
+use Rattle.dp_semantics.proofs.Names.{◌≡◌, inl, inr, refl, sym, ap, ◌∙◌, ℕ, zero, suc, ◌+◌, ◌≤◌, Bool, true, false, not, if◌then◌else◌, List, [], ◌∷◌, ◌++◌, ℤ}
+use Rattle.dp_semantics.proofs.Names.{pos, length, length-set, map, arith, get_or, slice_set, get_or-set_at, get_or-set_other, list_any, cases_Bool, cases_eq}
+use Rattle.dp_semantics.proofs.Names.{cases_lt, clear_locals, is_local_cell, numbers_from, Judgement, Clean, Unclean}
 use Rattle.std.proofs.lemmas.List.{ext_get_or}
 use Rattle.dp_base.specs.declared.StoreOf.{StoreOf}
 use Rattle.dp_semantics.specs.Told.{with_stores}
@@ -9,7 +11,8 @@ use Rattle.dp_theorem.proofs.Memory.{clear-at, clear-other}
 use Rattle.dp_theorem.proofs.Told.{stores_are_all}
 use Rattle.dp_net.specs.NetItems.{Marks}
 use Rattle.dp_net.specs.NetVerdicts.{GoesOnTo, NetAgrees, SaysTheSame, net_verdict_at}
-use Rattle.dp_net.specs.Batches.{BatchEnd, BatchGoesOn, BatchCloses, BatchRecovers, BatchVerdict, nothing_but, with_front, together, left_behind, BatchAgrees, BatchLeads}
+use Rattle.dp_net.specs.Batches.{BatchEnd, BatchGoesOn, BatchCloses, BatchRecovers, BatchVerdict, nothing_but, with_front, together, left_behind, BatchAgrees}
+use Rattle.dp_net.specs.Batches.{BatchLeads}
 use Rattle.dp_net.proofs.Sent.{clear_size}
 
 stores_join : (a b : List StoreOf) (cells : List ℤ) → with_stores (a ++ b) cells ≡ with_stores b (with_stores a cells)
@@ -141,7 +144,8 @@ module _ (key : EpochKey) where
           )
 
   nothing_leads : (k : ℕ) (ends : BatchEnd) → BatchLeads key k (nothing_but ends)
-  nothing_leads k ends = let none : k + 0 ≡ k = omega arith in record { cells = ap (λ (n : ℕ). left_behind key [] (state_at key n).cells) none; steps = ap (λ (n : ℕ). (state_at key n).steps) none ∙ omega arith }
+  nothing_leads k ends = let none : k + 0 ≡ k = omega arith in
+      record { cells = ap (λ (n : ℕ). left_behind key [] (state_at key n).cells) none; steps = ap (λ (n : ℕ). (state_at key n).steps) none ∙ omega arith }
 
   front_leads : (k : ℕ) (v : Carried) (w : BatchVerdict) → verdict_at key k ≡ Commit v → BatchLeads key (k + 1) w → BatchLeads key k (with_front v w)
   front_leads k v w e rest =

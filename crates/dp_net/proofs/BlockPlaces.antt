@@ -1,5 +1,8 @@
 -- Each stage's text has the blocks of the region whole.
-use Rattle.dp_semantics.proofs.Names.{◌≡◌, inl, inr, refl, sym, ap, ◌∙◌, ℕ, ◌+◌, ◌-◌, ◌<◌, ◌≤◌, ◌==◌, Bool, true, false, ◌&&◌, if◌then◌else◌, List, [], ◌∷◌, ◌++◌, Option, Some, None, arith, eqb-true, and_parts, cases_Bool, SiteId, Expr, Stmt, Row_of-Stmt, end_of-Stmt, more_of-Stmt, out-Stmt, roll-Stmt, roll-out-Stmt, rolls-If, rolls-While, Assign, Store, Print, If, While, Break, Call, Program, Plan, stage_of, assumed_in, branch_of, project, project_in, project_all}
+use Rattle.dp_semantics.proofs.Names.{◌≡◌, inl, inr, refl, sym, ap, ◌∙◌, ℕ, ◌+◌, ◌-◌, ◌<◌, ◌≤◌, ◌==◌, Bool, true, false, ◌&&◌, if◌then◌else◌, List, [], ◌∷◌}
+use Rattle.dp_semantics.proofs.Names.{◌++◌, Option, Some, None, arith, eqb-true, and_parts, cases_Bool, SiteId, Expr, Stmt, Row_of-Stmt, end_of-Stmt}
+use Rattle.dp_semantics.proofs.Names.{more_of-Stmt, out-Stmt, roll-Stmt, roll-out-Stmt, rolls-If, rolls-While, Assign, Store, Print, If, While, Break, Call}
+use Rattle.dp_semantics.proofs.Names.{Program, Plan, stage_of, assumed_in, branch_of, project, project_in, project_all}
 use Rattle.dp_tree.specs.declared.Stmt.TheVariants as tree
 use Rattle.dp_tree.specs.declared.Stmt.TheViews.{outs-If', outs-While'}
 use Rattle.dp_tree.specs.Statements.{listed, everywhere_in}

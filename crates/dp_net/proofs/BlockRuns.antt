@@ -1,12 +1,15 @@
 -- A turn over items against the one over the words that they stand for, at a block: both go through it, or both break off.
-use Rattle.dp_semantics.proofs.Names.{◌≡◌, inl, inr, refl, sym, ap, ◌∙◌, subst, append-nil, ℕ, zero, suc, ◌+◌, ◌-◌, ◌<◌, ◌≤◌, Bool, true, List, [], ◌∷◌, ◌++◌, drop, ℤ, length, length-append, list_all, Some, None, Err, lt-ltb, arith, eq-eqb, ne_eqb, slice_set, get_or, get_or_past, sum_by, sum_by-set, cases_eq, cases_lt, Stmt, out-Stmt, Program, Plan, Word, Event, stage_of, word_list, Void, taken_from, Turn, applied}
+use Rattle.dp_semantics.proofs.Names.{◌≡◌, inl, inr, refl, sym, ap, ◌∙◌, subst, append-nil, ℕ, zero, suc, ◌+◌, ◌-◌, ◌<◌, ◌≤◌, Bool, true, List, [], ◌∷◌, ◌++◌}
+use Rattle.dp_semantics.proofs.Names.{drop, ℤ, length, length-append, list_all, Some, None, Err, lt-ltb, arith, eq-eqb, ne_eqb, slice_set, get_or, get_or_past}
+use Rattle.dp_semantics.proofs.Names.{sum_by, sum_by-set, cases_eq, cases_lt, Stmt, out-Stmt, Program, Plan, Word, Event, stage_of, word_list, Void, taken_from}
+use Rattle.dp_semantics.proofs.Names.{Turn, applied}
 unfoldable use Rattle.dp_net.proofs.Strict.{strict_from}
 use Rattle.std.proofs.lemmas.List.{map-set}
 use Rattle.dp_semantics.proofs.Each.{Each, each_join}
 use Rattle.dp_semantics.proofs.Ways.{Goes}
 use Rattle.dp_semantics.proofs.Taking.{word_list_is}
 use Rattle.dp_semantics.proofs.Followed.{Parts}
-use Rattle.dp_net.specs.Quiet.{Outcome, Through, Broke}
+use Rattle.dp_net.specs.Quiet.{BlockOutcome, Through, Broke}
 unfoldable use Rattle.dp_net.specs.Quiet.{quiet_from}
 use Rattle.dp_net.specs.NetItems.{Marks, Item, weights, net_of}
 use Rattle.dp_net.specs.NetRun.{NetTurn, net_past, net_made, net_met, net_step}
@@ -14,7 +17,8 @@ use Rattle.dp_net.proofs.Silent.{AllQuiet}
 use Rattle.dp_net.proofs.Blocks.{said, said_length, effects_of, at_turn, through}
 use Rattle.dp_net.proofs.BlockTurns.{breaks, produce, consume}
 use Rattle.dp_net.proofs.Memories.{agree_net}
-use Rattle.dp_net.proofs.Groups.{Group, Block, flats, flats_join, items, items_join, weights_are, all_flats, all_items, group_list, words_of_groups, items_of_groups, Marked, Whole, Good, Meets, whole, other, meets, met_none}
+use Rattle.dp_net.proofs.Groups.{Group, Block, flats, flats_join, items, items_join, weights_are, all_flats, all_items, group_list, words_of_groups}
+use Rattle.dp_net.proofs.Groups.{items_of_groups, Marked, Whole, Good, Meets, whole, other, meets, met_none}
 use Rattle.dp_net.proofs.Texts.{site_at, Text}
 use Rattle.dp_net.proofs.Ready.{Ready, each_set, each_get, SameOutcome, same_through, same_broke, Steady, steady_head, steady_split, outcome_same}
 use Rattle.dp_net.proofs.SiteRuns.{word_turn, item_turn, left_of, Enough, Held}
@@ -22,7 +26,8 @@ use Rattle.dp_net.proofs.SiteRuns.{word_turn, item_turn, left_of, Enough, Held}
 module _ (p : Program) (plan : Plan) (m : Marks) (input : List ℤ) (marked : Marked p plan m input) (test : Stmt → Bool) where
   module _ (ready : (x : Stmt) → test x ≡ true → Ready p plan m (out-Stmt x) × Parts (λ xs. list_all test xs ≡ true) (out-Stmt x)) (s : ℕ) where
     -- a block at the head
-    module _ (x : Stmt) (b more : List Stmt) (cells mem : List ℤ) (groups : List (List Group)) (made : List Group) (closing : Bool) (held : Held p plan m input marked test ready s (x ∷ (b ++ more)) cells mem groups made)
+    module _ (x : Stmt) (b more : List Stmt) (cells mem : List ℤ) (groups : List (List Group)) (made : List Group) (closing : Bool)
+        (held : Held p plan m input marked test ready s (x ∷ (b ++ more)) cells mem groups made)
         (at : m.block_at (site_at x) ≡ x ∷ b) (text : Text m more) where
       abbrev f : ℕ
       f = site_at x
@@ -60,10 +65,13 @@ module _ (p : Program) (plan : Plan) (m : Marks) (input : List ℤ) (marked : Ma
         pub made_then : List Group
         pub held_then : Held p plan m input marked test ready s more cells_then mem_then groups_then made_then
         pub runs : (k n : ℕ) → k ≡ steps + n →
-            strict_from p plan input s k before_words ≡ strict_from p plan input s n (word_turn p plan m input marked test ready s more cells_then groups_then made_then closing)
-        pub made_is : net_step p plan m input s before_items x (b ++ more) ≡ Some (item_turn p plan m input marked test ready s more mem_then groups_then made_then closing)
+            strict_from p plan input s k before_words ≡ strict_from p plan input s n (word_turn p plan m input marked test ready s more cells_then
+            groups_then made_then closing)
+        pub made_is : net_step p plan m input s before_items x (b ++ more) ≡ Some (item_turn p plan m input marked test ready s more mem_then
+            groups_then made_then closing)
         pub some : 0 < steps
-        pub paid : steps + length (flats made) + left_of p plan m input marked test ready s groups_then ≤ length (flats made_then) + left_of p plan m input marked test ready s groups
+        pub paid : steps + length (flats made) + left_of p plan m input marked test ready s groups_then ≤ length (flats made_then) + left_of p plan m input
+            marked test ready s groups
 
       -- both go through the block, or both break off
       pub data Through_it : Type 0 where
@@ -87,11 +95,12 @@ module _ (p : Program) (plan : Plan) (m : Marks) (input : List ℤ) (marked : Ma
         room_is : room + length (flats made) ≡ plan.words
         room_is = let a = weights_are p plan m made in let b = held.fits in omega (arith, a, b)
 
-        net_is : (o : Outcome) → quiet_from p input room (x ∷ b) mem ≡ o →
+        net_is : (o : BlockOutcome) → quiet_from p input room (x ∷ b) mem ≡ o →
             net_step p plan m input s before_items x (b ++ more) ≡ net_made p plan m f before_items more o
         net_is o e = step_is ∙ rw (eq-eqb u s here, e) refl
 
-        own_block : (o n : Outcome) → SameOutcome m s o n → quiet_from p input room (x ∷ b) cells ≡ o → quiet_from p input room (x ∷ b) mem ≡ n → Through_it
+        own_block : (o n : BlockOutcome) → SameOutcome m s o n → quiet_from p input room (x ∷ b) cells ≡ o →
+            quiet_from p input room (x ∷ b) mem ≡ n → Through_it
         own_block o n same_broke e d = broken (net_is Broke d)
             (λ k enough. breaks p plan s input room (x ∷ b) cells e quiet_here more (all_flats p plan m groups)
             (flats made) closing room_is k (omega (arith, enough, room_is)))
@@ -176,7 +185,8 @@ module _ (p : Program) (plan : Plan) (m : Marks) (input : List ℤ) (marked : Ma
               (sym (map-set flats groups (u - 1) gs));
           made_is = met_is ∙ ap (λ (all : List Group). net_met p plan f before_items more (items p plan m all)) is
               ∙ rw (eq-eqb f f refl, lt-ltb 0 (length events) (some_steps w)) refl
-              ∙ ap (λ (ls : List (List Item)). Some (net_past p plan before_items more (applied (net_of (m.hides u) (effects_of events)) mem) ls (items p plan m made))) (sym (map-set (items p plan m) groups (u - 1) gs));
+              ∙ ap (λ (ls : List (List Item)). Some (net_past p plan before_items more (applied (net_of (m.hides u) (effects_of events)) mem) ls
+              (items p plan m made))) (sym (map-set (items p plan m) groups (u - 1) gs));
           some = some_steps w;
           paid = omega (arith, sums, sizes, gone_is, set_is);
         })
@@ -208,6 +218,7 @@ module _ (p : Program) (plan : Plan) (m : Marks) (input : List ℤ) (marked : Ma
 
       pub block_case : Through_it
       block_case = elim (cases_eq u s) [
-        | inl here ↦ own_block here _ _ (outcome_same p plan m input marked test ready s (room here) (x ∷ b) cells mem parts.0 (quiet_here here) held.agrees) refl refl
+        | inl here ↦ own_block here _ _ (outcome_same p plan m input marked test ready s (room here) (x ∷ b) cells mem parts.0 (quiet_here here)
+            held.agrees) refl refl
         | inr there ↦ met_block there (meets p plan m input marked f (marked.within f x b at) (group_list p plan m groups u) (good_there there))
       ]

@@ -1,10 +1,14 @@
 -- The text of each stage has the blocks that are sought in the region whole.
-use Rattle.dp_semantics.proofs.Names.{◌≡◌, inl, inr, refl, sym, ap, ◌∙◌, subst, ℕ, suc, ◌+◌, ◌<◌, ◌≤◌, ◌==◌, Bool, true, false, if◌then◌else◌, List, [], ◌∷◌, ◌++◌, length, length-append, map, map-append, Option, Some, None, arith, nat_lt, nat_le, lt-ltb, le-ltb, eq-eqb, ne_eqb, cases_Bool, cases_eq, cases_lt, SiteId, Expr, Stmt, Row_of-Stmt, end_of-Stmt, more_of-Stmt, out-Stmt, outs-If, Stmt-F, If, While, Program, Plan, site_of, stage_of, Access, accesses, accesses_in, assumed_in, branch_of, where_reached, project, project_in, project_all}
+use Rattle.dp_semantics.proofs.Names.{◌≡◌, inl, inr, refl, sym, ap, ◌∙◌, subst, ℕ, suc, ◌+◌, ◌<◌, ◌≤◌, ◌==◌, Bool, true, false, if◌then◌else◌, List, [], ◌∷◌}
+use Rattle.dp_semantics.proofs.Names.{◌++◌, length, length-append, map, map-append, Option, Some, None, arith, nat_lt, nat_le, lt-ltb, le-ltb, eq-eqb, ne_eqb}
+use Rattle.dp_semantics.proofs.Names.{cases_Bool, cases_eq, cases_lt, SiteId, Expr, Stmt, Row_of-Stmt, end_of-Stmt, more_of-Stmt, out-Stmt, outs-If, Stmt-F, If}
+use Rattle.dp_semantics.proofs.Names.{While, Program, Plan, site_of, stage_of, Access, accesses, accesses_in, assumed_in, branch_of, where_reached, project}
+use Rattle.dp_semantics.proofs.Names.{project_in, project_all}
 use Rattle.dp_tree.specs.declared.Stmt.TheVariants as tree
 use Rattle.dp_tree.specs.declared.Stmt.TheVariants.{outs-While}
 use Rattle.dp_tree.specs.declared.Stmt.TheViews.{outs-Assign, outs-Store, outs-Print, outs-Break, outs-If', outs-While', outs-Region', outs-Call}
 use Rattle.dp_tree.specs.Statements.{listed}
-use Rattle.dp_plan.specs.Written.{site_in}
+use Rattle.dp_plan.specs.Written.{access_site}
 use Rattle.dp_plan.proofs.Ascent.{Ascends, ascends_split}
 use Rattle.dp_net.specs.Quiet.{is_quiet}
 use Rattle.dp_net.specs.NetItems.{begins, Marks}
@@ -13,11 +17,11 @@ use Rattle.dp_net.proofs.Texts.{site_at, IsLeaf, Plain, Text, ends, leaf, choice
 use Rattle.dp_net.proofs.BlockPlaces.{quiet_stage, kept, gone, project_join, project_listed, run_split, run_quiet, run_kept, run_gone}
 
 abbrev sites_of : List Access → List ℕ
-sites_of all = map site_in all
+sites_of all = map access_site all
 
 sites_split : (k : ℕ) (a b : List Access) → Ascends k (sites_of (a ++ b)) → Ascends k (sites_of a) × Ascends (k + length a) (sites_of b)
 sites_split k a b h =
-    let r = ascends_split k (sites_of a) (sites_of b) (subst (Ascends k) (map-append site_in a b) h) in
+    let r = ascends_split k (sites_of a) (sites_of b) (subst (Ascends k) (map-append access_site a b) h) in
     (r.0, subst (λ (n : ℕ). Ascends (k + n) (sites_of b)) (length_sites a) r.1)
   where
     length_sites : (xs : List Access) → length (sites_of xs) ≡ length xs
@@ -49,31 +53,42 @@ module _ (p : Program) (plan : Plan) (m : Marks) (s : ℕ) (out : (f : ℕ) → 
 
   if_text : (site : SiteId) (cond : Expr) (a b : List Stmt) → m.block_at site.0 ≡ [] → Text m a → Text m b →
       Text m (where_reached p plan s site.0 (tree.If site cond a b ∷ []) (branch_of (assumed_in plan.assume site.0) a b))
-  if_text site cond a b none t u = reach_text site.0 _ _ (choice (plain_at (tree.If site cond a b) (If site cond a b) (outs-If site cond a b) none) (outs-If site cond a b) t u ends) (branch_text (assumed_in plan.assume site.0) a b t u)
+  if_text site cond a b none t u = reach_text site.0 _ _ (choice (plain_at (tree.If site cond a b) (If site cond a b) (outs-If site cond a b) none)
+      (outs-If site cond a b) t u ends) (branch_text (assumed_in plan.assume site.0) a b t u)
 
   while_text : (site : SiteId) (cond : Expr) (a : List Stmt) → m.block_at site.0 ≡ [] → Text m a →
       Text m (where_reached p plan s site.0 (tree.While site cond a ∷ []) [])
-  while_text site cond a none t = reach_text site.0 _ _ (loop (plain_at (tree.While site cond a) (While site cond a) (outs-While site cond a) none) (outs-While site cond a) t ends) ends
+  while_text site cond a none t =
+      reach_text site.0 _ _ (loop (plain_at (tree.While site cond a) (While site cond a) (outs-While site cond a) none) (outs-While site cond a) t ends) ends
 
   region_text : (site : SiteId) (cond : Expr) (a : List Stmt) → m.block_at site.0 ≡ [] → Text m a → Text m (tree.If site cond a [] ∷ [])
-  region_text site cond a none t = choice (plain_at (tree.If site cond a []) (If site cond a []) (outs-If site cond a []) none) (outs-If site cond a []) t ends ends
+  region_text site cond a none t =
+      choice (plain_at (tree.If site cond a []) (If site cond a []) (outs-If site cond a []) none) (outs-If site cond a []) t ends ends
 
   mutual
     -- a statement where no block begins
     plain_text : (x : Stmt) (k : ℕ) → Ascends k (sites_of (accesses x)) → NoneFrom k (length (accesses x)) → Text m (project p plan s x)
-    plain_text (tree.Assign site x e) k h none = reach_text site.0 _ _ (leaf_at (tree.Assign site x e) _ (outs-Assign site x e) tt (none site.0 (omega (arith, h.0)) (omega (arith, h.0)))) ends
-    plain_text (tree.Store site x index e) k h none = reach_text site.0 _ _ (leaf_at (tree.Store site x index e) _ (outs-Store site x index e) tt (none site.0 (omega (arith, h.0)) (omega (arith, h.0)))) ends
-    plain_text (tree.Print site e) k h none = reach_text site.0 _ _ (leaf_at (tree.Print site e) _ (outs-Print site e) tt (none site.0 (omega (arith, h.0)) (omega (arith, h.0)))) ends
-    plain_text (tree.Break site cond) k h none = reach_text site.0 _ _ (leaf_at (tree.Break site cond) _ (outs-Break site cond) tt (none site.0 (omega (arith, h.0)) (omega (arith, h.0)))) ends
+    plain_text (tree.Assign site x e) k h none =
+        reach_text site.0 _ _ (leaf_at (tree.Assign site x e) _ (outs-Assign site x e) tt (none site.0 (omega (arith, h.0)) (omega (arith, h.0)))) ends
+    plain_text (tree.Store site x index e) k h none =
+        reach_text site.0 _ _ (leaf_at (tree.Store site x index e) _ (outs-Store site x index e) tt
+        (none site.0 (omega (arith, h.0)) (omega (arith, h.0)))) ends
+    plain_text (tree.Print site e) k h none =
+        reach_text site.0 _ _ (leaf_at (tree.Print site e) _ (outs-Print site e) tt (none site.0 (omega (arith, h.0)) (omega (arith, h.0)))) ends
+    plain_text (tree.Break site cond) k h none =
+        reach_text site.0 _ _ (leaf_at (tree.Break site cond) _ (outs-Break site cond) tt (none site.0 (omega (arith, h.0)) (omega (arith, h.0)))) ends
     plain_text (tree.If' site cond _ a _ b) k h none =
         let parts = sites_split (suc k) (accesses_in a) (accesses_in b) h.1 in
         let sum = length-append (accesses_in a) (accesses_in b) in
         if_text site cond _ _ (none site.0 (omega (arith, h.0)) (omega (arith, h.0)))
-        (plain_row a (suc k) parts.0 (λ f low high. none f (omega (arith, low)) (omega (arith, high, sum)))) (plain_row b (suc k + length (accesses_in a)) parts.1 (λ f low high. none f (omega (arith, low)) (omega (arith, high, sum))))
+        (plain_row a (suc k) parts.0 (λ f low high. none f (omega (arith, low)) (omega (arith, high, sum))))
+        (plain_row b (suc k + length (accesses_in a)) parts.1 (λ f low high. none f (omega (arith, low)) (omega (arith, high, sum))))
     plain_text (tree.While' site cond _ a) k h none =
-        while_text site cond _ (none site.0 (omega (arith, h.0)) (omega (arith, h.0))) (plain_row a (suc k) h.1 (λ f low high. none f (omega (arith, low)) (omega (arith, high))))
+        while_text site cond _ (none site.0 (omega (arith, h.0)) (omega (arith, h.0)))
+        (plain_row a (suc k) h.1 (λ f low high. none f (omega (arith, low)) (omega (arith, high))))
     plain_text (tree.Region' r site cond _ a) k h none =
-        region_text site cond _ (none site.0 (omega (arith, h.0)) (omega (arith, h.0))) (plain_row a (suc k) h.1 (λ f low high. none f (omega (arith, low)) (omega (arith, high))))
+        region_text site cond _ (none site.0 (omega (arith, h.0)) (omega (arith, h.0)))
+        (plain_row a (suc k) h.1 (λ f low high. none f (omega (arith, low)) (omega (arith, high))))
     plain_text (tree.Call g line args) k h none = ends
 
     plain_row : {n : _} (row : Row_of-Stmt n) (k : ℕ) → Ascends k (sites_of (accesses_in row)) → NoneFrom k (length (accesses_in row)) →
@@ -82,7 +97,8 @@ module _ (p : Program) (plan : Plan) (m : Marks) (s : ℕ) (out : (f : ℕ) → 
     plain_row (more_of-Stmt x rest) k h none =
         let parts = sites_split k (accesses x) (accesses_in rest) h in
         let sum = length-append (accesses x) (accesses_in rest) in
-        text_join m (plain_text x k parts.0 (λ f low high. none f low (omega (arith, high, sum)))) (plain_row rest (k + length (accesses x)) parts.1 (λ f low high. none f (omega (arith, low)) (omega (arith, high, sum))))
+        text_join m (plain_text x k parts.0 (λ f low high. none f low (omega (arith, high, sum)))) (plain_row rest (k + length (accesses x)) parts.1
+        (λ f low high. none f (omega (arith, low)) (omega (arith, high, sum))))
 
   -- a statement with sites has the first of them; a call has none
   data Sited (x : Stmt) (k : ℕ) : Type 0 where
@@ -107,10 +123,8 @@ module _ (p : Program) (plan : Plan) (m : Marks) (s : ℕ) (out : (f : ℕ) → 
     abbrev Answers : {n : _} → Option ℕ → Row_of-Stmt n → ℕ → Type 0
     Answers before row k = (f : ℕ) → k ≤ f → f < k + length (accesses_in row) → m.block_at f ≡ sought p plan pays f before row
 
-    module _ {n : _} (x : Stmt) (rest : Row_of-Stmt n) (before : Option ℕ) (k : ℕ) (h : Ascends k (sites_of (accesses x ++ accesses_in rest))) (answers : Answers before (more_of-Stmt x rest) k) where
-      size : ℕ
-      size = length (accesses x)
-
+    module _ {n : _} (x : Stmt) (rest : Row_of-Stmt n) (before : Option ℕ) (k : ℕ) (h : Ascends k (sites_of (accesses x ++ accesses_in rest)))
+        (answers : Answers before (more_of-Stmt x rest) k) where
       sum : length (accesses x ++ accesses_in rest) ≡ length (accesses x) + length (accesses_in rest)
       sum = length-append (accesses x) (accesses_in rest)
 
@@ -120,7 +134,9 @@ module _ (p : Program) (plan : Plan) (m : Marks) (s : ℕ) (out : (f : ℕ) → 
       -- behind the statement
       later : Answers (run_behind p plan x) rest (k + length (accesses x))
       later f low high = answers f (omega (arith, low)) (omega (arith, high, sum))
-          ∙ ap (λ (c : Bool). if c then (if f == own_site p plan x then block_from p plan pays before x (listed rest) else (if is_quiet_own p plan x then [] else sought_inside p plan pays f x)) else sought p plan pays f (run_behind p plan x) rest) (past (is_sited x k parts.0))
+          ∙ ap (λ (c : Bool). if c then (if f == own_site p plan x then block_from p plan pays before x (listed rest)
+          else (if is_quiet_own p plan x then [] else sought_inside p plan pays f x)) else sought p plan pays f (run_behind p plan x) rest)
+          (past (is_sited x k parts.0))
         where
           past : Sited x k → nat_lt f (site_past p plan x) ≡ false
           past (sited at some) = le-ltb f (site_past p plan x) (omega (arith, at, low))
@@ -149,8 +165,13 @@ module _ (p : Program) (plan : Plan) (m : Marks) (s : ℕ) (out : (f : ℕ) → 
           own_site p plan x ≡ k → Text m (project_all p plan s (past_run p plan t (listed rest))) →
           Text m (project p plan s x ++ project_in p plan s rest)
       block_here t stage q is at after = elim (cases_lt s t) [
-        | inl early ↦ subst (Text m) (sym (rw (gone p plan t s early x q) (behind ∙ ap (λ (ys : List Stmt). ys ++ project_all p plan s (past_run p plan t (listed rest))) (run_gone p plan t s early (run p plan t (listed rest)) (run_quiet p plan t (listed rest)))))) after
-        | inr late ↦ subst (Text m) (sym (rw (kept p plan t s late x q) (ap (λ (ys : List Stmt). x ∷ ys) (behind ∙ ap (λ (ys : List Stmt). ys ++ project_all p plan s (past_run p plan t (listed rest))) (run_kept p plan t s late (run p plan t (listed rest)) (run_quiet p plan t (listed rest)))))))
+        | inl early ↦ subst (Text m)
+            (sym (rw (gone p plan t s early x q) (behind ∙ ap (λ (ys : List Stmt). ys ++ project_all p plan s (past_run p plan t (listed rest)))
+            (run_gone p plan t s early (run p plan t (listed rest)) (run_quiet p plan t (listed rest)))))) after
+        | inr late ↦ subst (Text m)
+            (sym (rw (kept p plan t s late x q)
+            (ap (λ (ys : List Stmt). x ∷ ys) (behind ∙ ap (λ (ys : List Stmt). ys ++ project_all p plan s (past_run p plan t (listed rest)))
+            (run_kept p plan t s late (run p plan t (listed rest)) (run_quiet p plan t (listed rest)))))))
             (block (ap m.block_at at ∙ is) refl after)
       ]
         where
@@ -170,7 +191,8 @@ module _ (p : Program) (plan : Plan) (m : Marks) (s : ℕ) (out : (f : ℕ) → 
         where
           quiet_text : is_quiet_own p plan x ≡ true → Sited x k → Text m (project p plan s x ++ project_in p plan s rest)
           quiet_text q (siteless none at quiet) = let clash : true ≡ false = sym q ∙ quiet in absurd (cc clash)
-          quiet_text q (sited at some) = by (joins_run p plan (own_stage p plan x) before) (pays (x ∷ run p plan (own_stage p plan x) (listed rest))) (first at some ∙ rw q refl)
+          quiet_text q (sited at some) =
+              by (joins_run p plan (own_stage p plan x) before) (pays (x ∷ run p plan (own_stage p plan x) (listed rest))) (first at some ∙ rw q refl)
             where
               alone_text : m.block_at k ≡ [] → Text m (project p plan s x ++ project_in p plan s rest)
               alone_text none = text_join m (no_block q none at) (rest_text (run_behind p plan x) later)
@@ -179,7 +201,9 @@ module _ (p : Program) (plan : Plan) (m : Marks) (s : ℕ) (out : (f : ℕ) → 
                   Text m (project p plan s x ++ project_in p plan s rest)
               by true d e = alone_text e
               by false false e = alone_text e
-              by false true e = block_here (own_stage p plan x) refl q e at (after_text (own_stage p plan x) (subst (λ (o : Option ℕ). Answers o rest (k + length (accesses x))) (ap (λ (c : Bool). if c then Some (own_stage p plan x) else None) q) later))
+              by false true e = block_here (own_stage p plan x) refl q e at
+                  (after_text (own_stage p plan x) (subst (λ (o : Option ℕ). Answers o rest (k + length (accesses x)))
+                  (ap (λ (c : Bool). if c then Some (own_stage p plan x) else None) q) later))
 
       own_none : is_quiet_own p plan x ≡ false → Sited x k → 0 < length (accesses x) → m.block_at k ≡ []
       own_none q (sited at some) has = first at has ∙ rw q refl
@@ -189,7 +213,8 @@ module _ (p : Program) (plan : Plan) (m : Marks) (s : ℕ) (out : (f : ℕ) → 
       own_within q (sited at some) f low high = within at f low high ∙ rw q refl
       own_within q (siteless none at quiet) f low high = let e = ap length none in absurd (omega (arith, low, high, e))
 
-    past_more : {n : _} (x : Stmt) (rest : Row_of-Stmt n) (t k : ℕ) (h : Ascends k (sites_of (accesses x ++ accesses_in rest))) (answers : Answers (Some t) (more_of-Stmt x rest) k) → Text m (project p plan s x ++ project_in p plan s rest) →
+    past_more : {n : _} (x : Stmt) (rest : Row_of-Stmt n) (t k : ℕ) (h : Ascends k (sites_of (accesses x ++ accesses_in rest)))
+        (answers : Answers (Some t) (more_of-Stmt x rest) k) → Text m (project p plan s x ++ project_in p plan s rest) →
         (Answers (Some t) rest (k + length (accesses x)) → Text m (project_all p plan s (past_run p plan t (listed rest)))) →
         Text m (project_all p plan s (past_run p plan t (x ∷ listed rest)))
     past_more x rest t k h answers here behind = elim (cases_Bool (is_quiet p plan t x)) [
@@ -205,16 +230,24 @@ module _ (p : Program) (plan : Plan) (m : Marks) (s : ℕ) (out : (f : ℕ) → 
       -- a statement that isn't quiet
       pub stmt_text : (x : Stmt) (k : ℕ) → Ascends k (sites_of (accesses x)) → (0 < length (accesses x) → m.block_at k ≡ []) →
           ((f : ℕ) → k < f → f < k + length (accesses x) → m.block_at f ≡ sought_inside p plan pays f x) → Text m (project p plan s x)
-      stmt_text (tree.Assign site x e) k h none answers = reach_text site.0 _ _ (leaf_at (tree.Assign site x e) _ (outs-Assign site x e) tt (ap m.block_at h.0 ∙ none (omega arith))) ends
-      stmt_text (tree.Store site x index e) k h none answers = reach_text site.0 _ _ (leaf_at (tree.Store site x index e) _ (outs-Store site x index e) tt (ap m.block_at h.0 ∙ none (omega arith))) ends
-      stmt_text (tree.Print site e) k h none answers = reach_text site.0 _ _ (leaf_at (tree.Print site e) _ (outs-Print site e) tt (ap m.block_at h.0 ∙ none (omega arith))) ends
-      stmt_text (tree.Break site cond) k h none answers = reach_text site.0 _ _ (leaf_at (tree.Break site cond) _ (outs-Break site cond) tt (ap m.block_at h.0 ∙ none (omega arith))) ends
+      stmt_text (tree.Assign site x e) k h none answers =
+          reach_text site.0 _ _ (leaf_at (tree.Assign site x e) _ (outs-Assign site x e) tt (ap m.block_at h.0 ∙ none (omega arith))) ends
+      stmt_text (tree.Store site x index e) k h none answers =
+          reach_text site.0 _ _ (leaf_at (tree.Store site x index e) _ (outs-Store site x index e) tt (ap m.block_at h.0 ∙ none (omega arith))) ends
+      stmt_text (tree.Print site e) k h none answers =
+          reach_text site.0 _ _ (leaf_at (tree.Print site e) _ (outs-Print site e) tt (ap m.block_at h.0 ∙ none (omega arith))) ends
+      stmt_text (tree.Break site cond) k h none answers =
+          reach_text site.0 _ _ (leaf_at (tree.Break site cond) _ (outs-Break site cond) tt (ap m.block_at h.0 ∙ none (omega arith))) ends
       stmt_text (tree.If' site cond i a j b) k h none answers =
           let parts = sites_split (suc k) (accesses_in a) (accesses_in b) h.1 in
           let sum = length-append (accesses_in a) (accesses_in b) in
           if_text site cond _ _ (ap m.block_at h.0 ∙ none (omega arith))
-          (row_text a None (suc k) parts.0 (λ f low high. answers f (omega (arith, low)) (omega (arith, high, sum)) ∙ ap (λ (c : Bool). if c then sought p plan pays f None a else sought p plan pays f None b) (lt-ltb f (site.0 + 1 + length (accesses_in a)) (omega (arith, high, h.0)))))
-          (row_text b None (suc k + length (accesses_in a)) parts.1 (λ f low high. answers f (omega (arith, low)) (omega (arith, high, sum)) ∙ ap (λ (c : Bool). if c then sought p plan pays f None a else sought p plan pays f None b) (le-ltb f (site.0 + 1 + length (accesses_in a)) (omega (arith, low, h.0)))))
+          (row_text a None (suc k) parts.0 (λ f low high. answers f (omega (arith, low)) (omega (arith, high, sum))
+          ∙ ap (λ (c : Bool). if c then sought p plan pays f None a else sought p plan pays f None b) (lt-ltb f (site.0 + 1 + length (accesses_in a))
+          (omega (arith, high, h.0)))))
+          (row_text b None (suc k + length (accesses_in a)) parts.1 (λ f low high. answers f (omega (arith, low)) (omega (arith, high, sum))
+          ∙ ap (λ (c : Bool). if c then sought p plan pays f None a else sought p plan pays f None b) (le-ltb f (site.0 + 1 + length (accesses_in a))
+          (omega (arith, low, h.0)))))
       stmt_text (tree.While' site cond i a) k h none answers =
           while_text site cond _ (ap m.block_at h.0
           ∙ none (omega arith)) (row_text a None (suc k) h.1 (λ f low high. answers f (omega (arith, low)) (omega (arith, high))))
@@ -229,7 +262,8 @@ module _ (p : Program) (plan : Plan) (m : Marks) (s : ℕ) (out : (f : ℕ) → 
       row_text end_of-Stmt before k h answers = ends
       row_text (more_of-Stmt x rest) before k h answers =
           let split = sites_split k (accesses x) (accesses_in rest) h in
-          at_more x rest before k h answers (λ q. stmt_text x k split.0 (own_none x rest before k h answers q (is_sited x k split.0)) (own_within x rest before k h answers q (is_sited x k split.0)))
+          at_more x rest before k h answers (λ q. stmt_text x k split.0 (own_none x rest before k h answers q (is_sited x k split.0))
+          (own_within x rest before k h answers q (is_sited x k split.0)))
           (λ b a. row_text rest b (k + length (accesses x)) split.1 a) (λ t a. past_text rest t (k + length (accesses x)) split.1 a)
 
       -- .. and from behind a run of stage t on
@@ -239,6 +273,7 @@ module _ (p : Program) (plan : Plan) (m : Marks) (s : ℕ) (out : (f : ℕ) → 
       past_text (more_of-Stmt x rest) t k h answers =
           let split = sites_split k (accesses x) (accesses_in rest) h in
           past_more x rest t k h answers
-          (at_more x rest (Some t) k h answers (λ q. stmt_text x k split.0 (own_none x rest (Some t) k h answers q (is_sited x k split.0)) (own_within x rest (Some t) k h answers q (is_sited x k split.0)))
+          (at_more x rest (Some t) k h answers (λ q. stmt_text x k split.0 (own_none x rest (Some t) k h answers q (is_sited x k split.0))
+          (own_within x rest (Some t) k h answers q (is_sited x k split.0)))
           (λ b a. row_text rest b (k + length (accesses x)) split.1 a) (λ u a. past_text rest u (k + length (accesses x)) split.1 a))
           (λ a. past_text rest t (k + length (accesses x)) split.1 a)

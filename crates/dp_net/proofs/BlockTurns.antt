@@ -1,12 +1,15 @@
 -- A quiet block in the turn of its own stage, in a later stage's turn over its words, and in the judgement.
-use Rattle.dp_semantics.proofs.Names.{◌≡◌, refl, sym, ap, ◌∙◌, append_assoc, append-nil, ℕ, zero, suc, ◌+◌, ◌-◌, ◌<◌, ◌≤◌, Bool, List, [], ◌∷◌, ◌++◌, ℤ, length, length-append, length-set, None, Ok, Err, arith, slice_set, and_parts, Stmt, out-Stmt, Program, Plan, Word, Evaluated, evaluated, WithLoads, Event, Effect, Stored, Printed, Decided, Tried, site_of, value_of, stored, followed, stage_of, done_word, word_list, Void, Unclean, applied}
+use Rattle.dp_semantics.proofs.Names.{◌≡◌, refl, sym, ap, ◌∙◌, append_assoc, append-nil, ℕ, zero, suc, ◌+◌, ◌-◌, ◌<◌, ◌≤◌, Bool, List, [], ◌∷◌, ◌++◌, ℤ, length}
+use Rattle.dp_semantics.proofs.Names.{length-append, length-set, None, Ok, Err, arith, slice_set, and_parts, Stmt, out-Stmt, Program, Plan, Word, Evaluated}
+use Rattle.dp_semantics.proofs.Names.{evaluated, WithLoads, Event, Effect, Stored, Printed, Decided, Tried, site_of, value_of, stored, followed, stage_of}
+use Rattle.dp_semantics.proofs.Names.{done_word, word_list, Void, Unclean, applied}
 unfoldable use Rattle.dp_semantics.proofs.Names.{judge_from}
 unfoldable use Rattle.dp_net.proofs.Strict.{strict_from}
 use Rattle.dp_semantics.proofs.Evaluation.{Form}
 use Rattle.dp_semantics.proofs.Ways.{Goes, stays, goes}
 use Rattle.dp_semantics.proofs.Taking.{word_list_is, word_list_same}
 use Rattle.std.proofs.lemmas.List.{set-set}
-use Rattle.dp_net.specs.Quiet.{is_quiet, Outcome, Through, Broke, with_event, quiet_by}
+use Rattle.dp_net.specs.Quiet.{is_quiet, BlockOutcome, Through, Broke, with_event, quiet_by}
 unfoldable use Rattle.dp_net.specs.Quiet.{quiet_from}
 use Rattle.dp_net.proofs.Silent.{all_quiet, AllQuiet, quiet_out, QuietHead, known_quiet, form_is}
 use Rattle.dp_net.proofs.Blocks.{head_of, onward, own_fault, own_fits, own_full, taken_step, judged_step, set_self, said, effects_of, sites_of, at_turn}
@@ -17,11 +20,13 @@ module _ (p : Program) (plan : Plan) (t : ℕ) (input : List ℤ) where
       Goes p input to_do cells events after then_cells → AllQuiet p plan t to_do →
       (behind : List Stmt) (lists : List (List Word)) (own : List Word) (closing : Bool) (m n : ℕ) → m ≡ length events + n →
       length own + length events ≤ plan.words →
-      strict_from p plan input t m (at_turn (to_do ++ behind) cells lists own closing) ≡ strict_from p plan input t n (at_turn (after ++ behind) then_cells lists (own ++ said events) closing)
+      strict_from p plan input t m (at_turn (to_do ++ behind) cells lists own closing) ≡ strict_from p plan input t n
+      (at_turn (after ++ behind) then_cells lists (own ++ said events) closing)
   produce (stays {to_do = to_do} {cells = cells}) quiet behind lists own closing m n e fits =
       let same : m ≡ n = omega (arith, e) in ap (λ (u : ℕ). strict_from p plan input t u (at_turn (to_do ++ behind) cells lists own closing)) same
       ∙ ap (λ (ws : List Word). strict_from p plan input t n (at_turn (to_do ++ behind) cells lists ws closing)) (sym (append-nil own))
-  produce (goes {x = x} {rest = rest} {cells = cells} {v = v} {events = events} {after = after} {then_cells = then_cells} gave path) quiet behind lists own closing m n e fits =
+  produce (goes {x = x} {rest = rest} {cells = cells} {v = v} {events = events} {after = after} {then_cells = then_cells} gave path) quiet behind lists own
+      closing m n e fits =
       let w : Word = done_word (site_of (out-Stmt x)).0 v.value in
       let one : m ≡ suc (length events + n) = omega (arith, e) in
       let more = length-append own (w ∷ []) in
@@ -55,7 +60,7 @@ module _ (p : Program) (plan : Plan) (t : ℕ) (input : List ℤ) where
       (λ v broke own' room'. breaks n (followed x rest (out-Stmt x) (value_of v.value))
       (stored v.value cells) broke (onward p plan t x rest (value_of v.value) quiet) behind lists own' closing room' m (omega (arith, less)))
     where
-      broke_of : (event : Event) (o : Outcome) → with_event event o ≡ Broke → o ≡ Broke
+      broke_of : (event : Event) (o : BlockOutcome) → with_event event o ≡ Broke → o ≡ Broke
       broke_of event Broke e = refl
       broke_of event (Through events after) e = absurd (cc e)
 
@@ -85,7 +90,8 @@ module _ (p : Program) (plan : Plan) (t : ℕ) (input : List ℤ) where
       let kept : slice_set lists (t - 1) more ≡ lists = ap (slice_set lists (t - 1)) (sym front ∙ word_list_is lists t low) ∙ set_self lists (t - 1) [] in
       ap (λ (u : ℕ). strict_from p plan input s u (at_turn (to_do ++ behind) mem lists own closing)) same
       ∙ ap (λ (ls : List (List Word)). strict_from p plan input s n (at_turn (to_do ++ behind) mem ls own closing)) (sym kept)
-  consume (goes {x = x} {rest = rest} {cells = cells} {v = v} {events = events} {after = after} gave path) quiet s other low behind mem lists own closing more wide front m n e =
+  consume (goes {x = x} {rest = rest} {cells = cells} {v = v} {events = events} {after = after} gave path) quiet s other low behind mem lists own closing
+      more wide front m n e =
       let one : m ≡ suc (length events + n) = omega (arith, e) in
       let f = form_is p plan t (out-Stmt x) (known_quiet p plan t (out-Stmt x)
       (sym (quiet_out p plan t x) ∙ (and_parts (is_quiet p plan t x) (all_quiet p plan t rest) quiet).0)) input cells v gave in
@@ -114,7 +120,8 @@ module _ (p : Program) (plan : Plan) (t : ℕ) (input : List ℤ) where
       let same : m ≡ n = omega (arith, e) in
       let kept : slice_set lists (t - 1) more ≡ lists = ap (slice_set lists (t - 1)) (sym front ∙ word_list_is lists t low) ∙ set_self lists (t - 1) [] in
       rw (same, kept, append-nil effects, append-nil sites)
-  judge_block (goes {x = x} {rest = rest} {cells = cells} {v = v} {events = events} {after = after} gave path) quiet low behind mem lists own closing more wide front effects sites m n e =
+  judge_block (goes {x = x} {rest = rest} {cells = cells} {v = v} {events = events} {after = after} gave path) quiet low behind mem lists own closing more wide
+      front effects sites m n e =
       let one : m ≡ suc (length events + n) = omega (arith, e) in
       let f = form_is p plan t (out-Stmt x) (known_quiet p plan t (out-Stmt x)
       (sym (quiet_out p plan t x) ∙ (and_parts (is_quiet p plan t x) (all_quiet p plan t rest) quiet).0)) input cells v gave in
@@ -141,7 +148,8 @@ module _ (p : Program) (plan : Plan) (t : ℕ) (input : List ℤ) where
   unfolding judge_from
   judge_short stays quiet low behind mem lists own closing more wide front effects sites n few = absurd (omega (arith, few))
   judge_short (goes {x = x} {rest = rest} gave path) quiet low behind mem lists own closing more wide front effects sites zero few = refl
-  judge_short (goes {x = x} {rest = rest} {cells = cells} {v = v} {events = events} {after = after} gave path) quiet low behind mem lists own closing more wide front effects sites (suc n) few =
+  judge_short (goes {x = x} {rest = rest} {cells = cells} {v = v} {events = events} {after = after} gave path) quiet low behind mem lists own closing more wide
+      front effects sites (suc n) few =
       let f = form_is p plan t (out-Stmt x) (known_quiet p plan t (out-Stmt x)
       (sym (quiet_out p plan t x) ∙ (and_parts (is_quiet p plan t x) (all_quiet p plan t rest) quiet).0)) input cells v gave in
       let wide_then : t < suc (length (slice_set lists (t - 1) (said events ++ more))) = omega (arith, wide, length-set lists (t - 1) (said events ++ more)) in

@@ -1,5 +1,8 @@
 -- What a quiet block's own stage makes of it, what a later stage does with its words, and what the judgement does.
-use Rattle.dp_semantics.proofs.Names.{◌≡◌, refl, sym, ap, ◌∙◌, subst, ℕ, zero, suc, ◌-◌, ◌<◌, ◌≤◌, Bool, true, false, List, [], ◌∷◌, ◌++◌, ℤ, length, map, Ok, Err, arith, le-leb, lt-leb, eq-eqb, ne_eqb, slice_set, get_or, and_parts, or-false, FaultKind, Stmt, out-Stmt, Stmt-F, Program, Plan, Word, Evaluated, evaluated, WithLoads, Event, Effect, site_of, value_of, stored, followed, followed-append, stage_of, done_word, word_list, Full, taken_from, Turn, turned, loads_hold}
+use Rattle.dp_semantics.proofs.Names.{◌≡◌, refl, sym, ap, ◌∙◌, subst, ℕ, zero, suc, ◌-◌, ◌<◌, ◌≤◌, Bool, true, false, List, [], ◌∷◌, ◌++◌, ℤ, length, map, Ok}
+use Rattle.dp_semantics.proofs.Names.{Err, arith, le-leb, lt-leb, eq-eqb, ne_eqb, slice_set, get_or, and_parts, or-false, FaultKind, Stmt, out-Stmt, Stmt-F}
+use Rattle.dp_semantics.proofs.Names.{Program, Plan, Word, Evaluated, evaluated, WithLoads, Event, Effect, site_of, value_of, stored, followed, followed-append}
+use Rattle.dp_semantics.proofs.Names.{stage_of, done_word, word_list, Full, taken_from, Turn, turned, loads_hold}
 unfoldable use Rattle.dp_semantics.proofs.Names.{judge_from}
 unfoldable use Rattle.dp_net.proofs.Strict.{strict_from}
 use Rattle.dp_semantics.specs.Words.{Faults}
@@ -8,7 +11,7 @@ use Rattle.dp_semantics.proofs.Ways.{Goes, stays, goes, event_of}
 use Rattle.dp_semantics.proofs.Taking.{effect_of_word, taken_event, event_passes}
 use Rattle.dp_semantics.proofs.Followed.{followed_has, all_joins}
 use Rattle.dp_tree.specs.Step.{line_of}
-use Rattle.dp_net.specs.Quiet.{is_quiet, Outcome, Through, Broke, with_event, quiet_by}
+use Rattle.dp_net.specs.Quiet.{is_quiet, BlockOutcome, Through, Broke, with_event, quiet_by}
 unfoldable use Rattle.dp_net.specs.Quiet.{quiet_from}
 use Rattle.dp_net.proofs.Silent.{all_quiet, AllQuiet, quiet_out, QuietHead, known_quiet, form_is, closes_not, words_are, goes_assumed}
 
@@ -56,7 +59,9 @@ module _ (p : Program) (plan : Plan) (t : ℕ) where
         by : (events : List Event) (after : List ℤ) → Through [] cells ≡ Through events after → Goes p input [] cells events [] after × (length events ≤ suc n)
         by [] after e = let same : cells ≡ after = cc e in (subst (λ (m : List ℤ). Goes p input [] cells [] [] m) same stays, omega arith)
         by (event ∷ rest) after e = absurd (cc e)
-    through (suc n) (x ∷ rest) cells events after e = by (evaluated p input cells (out-Stmt x)) refl e (λ v more last r. through n (followed x rest (out-Stmt x) (value_of v.value)) (stored v.value cells) more last r)
+    through (suc n) (x ∷ rest) cells events after e =
+        by (evaluated p input cells (out-Stmt x)) refl e (λ v more last r. through n (followed x rest (out-Stmt x) (value_of v.value))
+        (stored v.value cells) more last r)
       where
         by : (u : Evaluated Effect) → evaluated p input cells (out-Stmt x) ≡ u →
             quiet_by (quiet_from p input n) x rest cells (out-Stmt x) u ≡ Through events after →
@@ -67,7 +72,7 @@ module _ (p : Program) (plan : Plan) (t : ℕ) where
         by (Err kind) gave e go = absurd (cc e)
         by (Ok v) gave e go = later (quiet_from p input n (followed x rest (out-Stmt x) (value_of v.value)) (stored v.value cells)) refl e
           where
-            later : (o : Outcome) → quiet_from p input n (followed x rest (out-Stmt x) (value_of v.value)) (stored v.value cells) ≡ o →
+            later : (o : BlockOutcome) → quiet_from p input n (followed x rest (out-Stmt x) (value_of v.value)) (stored v.value cells) ≡ o →
                 with_event (event_of (out-Stmt x) v) o ≡ Through events after →
                 Goes p input (x ∷ rest) cells events [] after × (length events ≤ suc n)
             later Broke is e = absurd (cc e)
@@ -77,7 +82,9 @@ module _ (p : Program) (plan : Plan) (t : ℕ) where
                 let two : last ≡ after = cc e in
                 let path : Goes p input (x ∷ rest) cells (event_of (out-Stmt x) v ∷ more) [] last = goes gave r.0 in
                 let less : length (event_of (out-Stmt x) v ∷ more) ≤ suc n = omega (arith, r.1) in
-                subst (λ (es : List Event). Goes p input (x ∷ rest) cells es [] after × (length es ≤ suc n)) one (subst (λ (m : List ℤ). Goes p input (x ∷ rest) cells (event_of (out-Stmt x) v ∷ more) [] m × (length (event_of (out-Stmt x) v ∷ more) ≤ suc n)) two (path, less))
+                subst (λ (es : List Event). Goes p input (x ∷ rest) cells es [] after × (length es ≤ suc n)) one
+                (subst (λ (m : List ℤ). Goes p input (x ∷ rest) cells (event_of (out-Stmt x) v ∷ more) [] m
+                × (length (event_of (out-Stmt x) v ∷ more) ≤ suc n)) two (path, less))
 
     module _ (x : Stmt) (rest behind : List Stmt) (quiet : AllQuiet p plan t (x ∷ rest)) (lists : List (List Word)) (own : List Word) (closing : Bool) where
       abbrev h : Stmt-F Stmt
@@ -99,7 +106,8 @@ module _ (p : Program) (plan : Plan) (t : ℕ) where
       module _ (cells : List ℤ) where
         -- the block's own stage: an evaluation that faults
         pub own_fault : (n : ℕ) (kind : FaultKind) → evaluated p input cells h ≡ Err kind →
-            strict_from p plan input t (suc n) (at_turn (x ∷ (rest ++ behind)) cells lists own closing) ≡ Err (Faults (record { kind = kind; line = line_of p (site_of h) }))
+            strict_from p plan input t (suc n) (at_turn (x ∷ (rest ++ behind)) cells lists own closing) ≡ Err
+            (Faults (record { kind = kind; line = line_of p (site_of h) }))
         unfolding strict_from
         own_fault n kind e = rw (eq-eqb (stage_of p plan (site_of h).0) t q.stage, e)
 
@@ -112,15 +120,29 @@ module _ (p : Program) (plan : Plan) (t : ℕ) where
 
           -- .. one that fits
           pub own_fits : (n : ℕ) → length (own ++ w ∷ []) ≤ plan.words →
-              strict_from p plan input t (suc n) (at_turn (x ∷ (rest ++ behind)) cells lists own closing) ≡ strict_from p plan input t n (at_turn (next_to v.value ++ behind) (stored v.value cells) lists (own ++ w ∷ []) closing)
+              strict_from p plan input t (suc n) (at_turn (x ∷ (rest ++ behind)) cells lists own closing) ≡ strict_from p plan input t n
+              (at_turn (next_to v.value ++ behind) (stored v.value cells) lists (own ++ w ∷ []) closing)
           unfolding strict_from
-          own_fits n fits = rw (eq-eqb (stage_of p plan (site_of h).0) t q.stage, gave, goes_assumed p plan t h q v.value form, words_are p plan t h q v.loads v.value, le-leb _ _ fits, turned_is cells v.value form (own ++ w ∷ []) lists)
+          own_fits n fits = rw (
+            eq-eqb (stage_of p plan (site_of h).0) t q.stage,
+            gave,
+            goes_assumed p plan t h q v.value form,
+            words_are p plan t h q v.loads v.value,
+            le-leb _ _ fits,
+            turned_is cells v.value form (own ++ w ∷ []) lists,
+          )
 
           -- .. and one that doesn't
           pub own_full : (n : ℕ) → plan.words < length (own ++ w ∷ []) →
               strict_from p plan input t (suc n) (at_turn (x ∷ (rest ++ behind)) cells lists own closing) ≡ Err Full
           unfolding strict_from
-          own_full n less = rw (eq-eqb (stage_of p plan (site_of h).0) t q.stage, gave, goes_assumed p plan t h q v.value form, words_are p plan t h q v.loads v.value, lt-leb _ _ less)
+          own_full n less = rw (
+            eq-eqb (stage_of p plan (site_of h).0) t q.stage,
+            gave,
+            goes_assumed p plan t h q v.value form,
+            words_are p plan t h q v.loads v.value,
+            lt-leb _ _ less,
+          )
 
       -- a later stage takes the word of it
       module _ (mem : List ℤ) (loads : List Rattle.dp_tree.specs.Eval.Load) (effect : Effect) (f : Form p h effect) (more : List Word)
@@ -137,7 +159,14 @@ module _ (p : Program) (plan : Plan) (t : ℕ) where
         pub taken_step : (s : ℕ) → (t ≡ s → ⊥) → (n : ℕ) → strict_from p plan input s (suc n) (at_turn (x ∷ (rest ++ behind)) mem lists own closing)
             ≡ strict_from p plan input s n (at_turn (next_to effect ++ behind) (stored effect mem) (slice_set lists (t - 1) more) own closing)
         unfolding strict_from
-        taken_step s other n = rw (ne_eqb (stage_of p plan (site_of h).0) s (λ e. other (sym q.stage ∙ e)), taken_is, q.stage, turned_is mem effect f own (slice_set lists (t - 1) more))
+        taken_step s other n =
+            rw (
+              ne_eqb (stage_of p plan (site_of h).0) s (λ e. other (sym q.stage ∙ e)),
+              taken_is,
+              q.stage,
+              turned_is mem effect f own (slice_set
+                  lists (t - 1) more),
+            )
 
         -- .. and so does the judgement
         held_is : loads_hold (site_of h).0 mem (word_list lists (stage_of p plan (site_of h).0)) ≡ true
@@ -158,7 +187,8 @@ module _ (p : Program) (plan : Plan) (t : ℕ) where
               sites = sites ++ (site_of h).0 ∷ [];
             })
         unfolding judge_from
-        judged_step n effects sites = rw (held_is, taken_is, goes_assumed p plan t h q effect f, q.stage, turned_is mem effect f own (slice_set lists (t - 1) more))
+        judged_step n effects sites =
+            rw (held_is, taken_is, goes_assumed p plan t h q effect f, q.stage, turned_is mem effect f own (slice_set lists (t - 1) more))
 
 -- a list with an element replaced by itself
 pub set_self : {X : Type 0} (l : List X) (i : ℕ) (d : X) → slice_set l i (get_or l i d) ≡ l

@@ -1,5 +1,9 @@
 -- What is known of the stages' turns on a packet that is judged clean.
-use Rattle.dp_semantics.proofs.Names.{◌≡◌, refl, sym, ap, ◌∙◌, subst, append_assoc, append-nil, ℕ, zero, suc, ◌+◌, ◌-◌, ◌<◌, ◌≤◌, Bool, true, false, List, [], ◌∷◌, ◌++◌, ℤ, length, length-append, get_or, get_or_append_left, get_or-append_seam, Option, Some, None, Ok, arith, slice_get, sum_by, Stmt, Word, word_list, Turn, TurnEnd, Ended, stage_run, StageKind, Par, Seq, Status, Going, Closing, Broken, Packet, Passed, passed, passed_on, run_on, at_kind, at_sequential, Epoch, cleared, status_of, Judgement, Agreed, Clean, Unclean, judge, judge_lists, judge_status, last, project_all}
+use Rattle.dp_semantics.proofs.Names.{◌≡◌, refl, sym, ap, ◌∙◌, subst, append_assoc, append-nil, ℕ, zero, suc, ◌+◌, ◌-◌, ◌<◌, ◌≤◌, Bool, true, false, List, []}
+use Rattle.dp_semantics.proofs.Names.{◌∷◌, ◌++◌, ℤ, length, length-append, get_or, get_or_append_left, get_or-append_seam, Option, Some, None, Ok, arith}
+use Rattle.dp_semantics.proofs.Names.{slice_get, sum_by, Stmt, Word, word_list, Turn, TurnEnd, Ended, stage_run, StageKind, Par, Seq, Status, Going, Closing}
+use Rattle.dp_semantics.proofs.Names.{Broken, Packet, Passed, passed, passed_on, run_on, at_kind, at_sequential, Epoch, cleared, status_of, Judgement, Agreed}
+use Rattle.dp_semantics.proofs.Names.{Clean, Unclean, judge, judge_lists, judge_status, last, project_all}
 unfoldable use Rattle.dp_semantics.proofs.Names.{turn_from, judge_from}
 use Rattle.dp_semantics.proofs.PacketFacts.{live, Left, left_live}
 use Rattle.dp_semantics.proofs.Setting.{Accepted, turn_of}
@@ -101,9 +105,16 @@ module _ (k : Epoch) where
       at_end : Front (length plan.stages) n
       at_end = record { later = []; final = sym (append-nil final.lists); alive = judged.0 }
 
-      judged_text : judge_from program plan left (record { turn = record { to_do = project_all program plan (last plan) (turn_of ok); cells = cells; lists = final.lists; own = []; closing = false }; effects = []; sites = [] }) ≡ Clean v
+      judged_text : judge_from program plan left
+          (record {
+            turn = record { to_do = project_all program plan (last plan) (turn_of ok); cells = cells; lists = final.lists; own = []; closing = false };
+            effects = [];
+            sites = [];
+          }) ≡ Clean v
       judged_text =
-          ap (λ (xs : List Stmt). judge_from program plan left (record { turn = record { to_do = xs; cells = cells; lists = final.lists; own = []; closing = false }; effects = []; sites = [] })) (sym (turn_text ok (last plan) (omega arith)))
+          ap (λ (xs : List Stmt). judge_from program plan left
+          (record { turn = record { to_do = xs; cells = cells; lists = final.lists; own = []; closing = false }; effects = []; sites = [] }))
+          (sym (turn_text ok (last plan) (omega arith)))
           ∙ judged.1
 
       pub turn_kept : (s : ℕ) → s < length plan.stages → (before : List ℤ) → passed k (suc s) n ≡ run_on k (suc s) before (passed k s n).packet →
@@ -151,7 +162,8 @@ module _ (k : Epoch) where
                 ∙ list_next came.lists behind.later left_here.ended.own);
           }
 
-          kept : (strict_from program plan input (suc s) bound (begun (project_all program plan (suc s) (turn_of ok))) ≡ Ok left_here.ended) × (left_here.ended.closing ≡ true → v.closing ≡ true)
+          kept : (strict_from program plan input (suc s) bound (begun (project_all program plan (suc s) (turn_of ok))) ≡ Ok left_here.ended)
+              × (left_here.ended.closing ≡ true → v.closing ≡ true)
           kept =
               kept_in program plan input (suc s) (omega arith) (omega (arith, high)) left bound (turn_of ok)
               (record { well = turn_well ok; sound = turn_sound ok }) before came.lists [] false cells final.lists [] false [] [] left_here.ended v facing

@@ -1,5 +1,7 @@
 -- The verdicts by items are the definition's.
-use Rattle.dp_semantics.proofs.Names.{◌≡◌, refl, sym, ap, ◌∙◌, subst, ℕ, zero, suc, ◌+◌, ◌-◌, Bool, true, false, if◌then◌else◌, List, [], ◌∷◌, ℤ, length, map, Option, Some, None, arith, nat_le, Stmt, Program, Plan, Effect, stored, clear_locals, project_all, region_statement, stage_of, Status, applied, last, Judgement, Agreed, Clean, Unclean, judge, judge_lists, judge_status}
+use Rattle.dp_semantics.proofs.Names.{◌≡◌, refl, sym, ap, ◌∙◌, subst, ℕ, zero, suc, ◌+◌, ◌-◌, Bool, true, false, if◌then◌else◌, List, [], ◌∷◌, ℤ, length, map}
+use Rattle.dp_semantics.proofs.Names.{Option, Some, None, arith, nat_le, Stmt, Program, Plan, Effect, stored, clear_locals, project_all, region_statement}
+use Rattle.dp_semantics.proofs.Names.{stage_of, Status, applied, last, Judgement, Agreed, Clean, Unclean, judge, judge_lists, judge_status}
 use Rattle.dp_semantics.specs.CauseWalk.{shown_from}
 use Rattle.dp_semantics.specs.Told.{StoresAreAll}
 use Rattle.dp_semantics.specs.EpochKey.{EpochKey, epoch_of}
@@ -8,7 +10,8 @@ use Rattle.dp_semantics.specs.EpochCauses.{kept_after, next_kept, kept_at}
 use Rattle.dp_net.specs.NetItems.{Marks}
 use Rattle.dp_net.specs.NetJudge.{NetAgreed, net_judge, net_judge_lists, net_judge_status}
 use Rattle.dp_net.specs.NetPackets.{NetStatus, NetPacket}
-use Rattle.dp_net.specs.NetVerdicts.{net_judgement_in, net_after_judgement, net_state_at, net_judgement_of, net_verdict_by, net_verdict_at, net_next_kept, net_kept_at, SaysTheSame}
+use Rattle.dp_net.specs.NetVerdicts.{net_judgement_in, net_after_judgement, net_state_at, net_judgement_of, net_verdict_by, net_verdict_at, net_next_kept}
+use Rattle.dp_net.specs.NetVerdicts.{net_kept_at, SaysTheSame}
 use Rattle.dp_semantics.proofs.Setting.{Accepted}
 use Rattle.dp_net.proofs.StrictEpochs.{CleanTo, clean_less, strict_judgement, judged_same}
 use Rattle.dp_net.proofs.Memories.{agrees_self, agree_after}
@@ -30,7 +33,8 @@ module _ (p : Program) (plan : Plan) where
   none_shown s (view ∷ rest) = ap (λ vs. view ∷ vs) (none_shown (suc s) rest)
 
   one_shown : (s site : ℕ) (effect : Effect) (sites : List ℕ) (effects : List Effect) (views : List (List ℤ)) →
-      shown_all p plan s sites effects (shown_from p plan (record { site = site; loads = []; effect = effect }) s views) ≡ shown_all p plan s (site ∷ sites) (effect ∷ effects) views
+      shown_all p plan s sites effects (shown_from p plan (record { site = site; loads = []; effect = effect }) s views) ≡ shown_all p plan s (site ∷ sites)
+      (effect ∷ effects) views
   one_shown s site effect sites effects [] = refl
   one_shown s site effect sites effects (view ∷ rest) = rw (one_shown (suc s) site effect sites effects rest) (by (nat_le (stage_of p plan site) s))
     where
@@ -59,8 +63,16 @@ module _ (key : EpochKey) (ok : Accepted key.program key.plan) {m : Marks} {test
   judged_alike left cells a b same = by a.status b.status same.status
     where
       lists : SameVerdict program plan m (judge_lists program plan left cells a.lists) (net_judge_lists program plan m left cells b.lists)
-      lists = rw (same.words, same.net) (judge_alike program plan m key.input q.marked test q.ready left (left + 1) left 0 (project_all program plan (last plan) (region_statement program plan)) cells cells same.groups false [] [] [] [] (omega arith) (omega arith)
-          (record { text = q.texts (last plan); steady = q.steady (last plan); agrees = agrees_self m (last plan) cells; good = same.good; made_good = tt; fits = omega arith })
+      lists = rw (same.words, same.net) (judge_alike program plan m key.input q.marked test q.ready left (left + 1) left 0
+          (project_all program plan (last plan) (region_statement program plan)) cells cells same.groups false [] [] [] [] (omega arith) (omega arith)
+          (record {
+            text = q.texts (last plan);
+            steady = q.steady (last plan);
+            agrees = agrees_self m (last plan) cells;
+            good = same.good;
+            made_good = tt;
+            fits = omega arith;
+          })
           (record { steps_are = refl; prints = refl; lasts = λ c o. refl; views = λ s c o. refl; sized = refl; net_sized = refl }))
 
       by : (u : Status) (w : NetStatus) → SameStatus u w →

@@ -3,7 +3,7 @@ use Rattle.dp_semantics.proofs.Names.{◌≡◌, inl, inr, refl, sym, ap, ◌∙
 use Rattle.dp_net.specs.NetItems.{Marks, item_list}
 use Rattle.dp_net.specs.NetRun.{NetEnded}
 unfoldable use Rattle.dp_net.specs.NetRun.{net_from}
-use Rattle.dp_net.specs.Follows.{Follows, ended}
+use Rattle.dp_net.specs.Follows.{FollowsText, ended}
 use Rattle.dp_net.proofs.Groups.{Marked}
 use Rattle.dp_net.proofs.Reading.{read_end}
 use Rattle.dp_net.proofs.Texts.{alone, joined, headed}
@@ -31,7 +31,7 @@ module _ (p : Program) (plan : Plan) (m : Marks) (input : List ℤ) (marked : Ma
       nothing t = elim (cases_eq t stage) [
         | inl here ↦ with_here stage [] (item_list lists) t here
         | inr other ↦ with_other stage [] (item_list lists) t other
-            ∙ read_end p plan m s (subst (λ (ys : List Stmt). Follows p plan m ys (item_list lists)) (part_nil s) came) t
+            ∙ read_end p plan m s (subst (λ (ys : List Stmt). FollowsText p plan m ys (item_list lists)) (part_nil s) came) t
       ]
   tells (suc n) (x ∷ rest) r cells lists own closing e came q = elim (headed m p plan input marked x rest r.text) [
     | alone plain texts ↦ site_tells p plan m input marked s n (tells n) x cells lists own closing e rest r came plain texts q

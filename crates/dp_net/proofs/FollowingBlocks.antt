@@ -1,18 +1,20 @@
 -- A turn over lists that follow the earlier stages' text, at a block: it tells what its own text asks for.
-use Rattle.dp_semantics.proofs.Names.{◌≡◌, inl, inr, refl, sym, ap, ◌∙◌, subst, append_assoc, list_all-append, flat_map-append, lt-ltb, ℕ, zero, suc, ◌-◌, ◌<◌, ◌≤◌, ◌==◌, Bool, if◌then◌else◌, List, [], ◌∷◌, ◌++◌, drop-append_seam, ℤ, length, Some, arith, eq-eqb, ne_eqb, slice_set, and_parts, cases_eq, Stmt, out-Stmt, Stmt-F, Program, Plan, Effect, stage_of, project_all, Access, accesses, well_nested, applied}
+use Rattle.dp_semantics.proofs.Names.{◌≡◌, inl, inr, refl, sym, ap, ◌∙◌, subst, append_assoc, list_all-append, flat_map-append, lt-ltb, ℕ, zero, suc, ◌-◌, ◌<◌}
+use Rattle.dp_semantics.proofs.Names.{◌≤◌, ◌==◌, Bool, if◌then◌else◌, List, [], ◌∷◌, ◌++◌, drop-append_seam, ℤ, length, Some, arith, eq-eqb, ne_eqb, slice_set}
+use Rattle.dp_semantics.proofs.Names.{and_parts, cases_eq, Stmt, Program, Plan, Effect, stage_of, project_all, Access, accesses, well_nested, applied}
 use Rattle.dp_semantics.proofs.Each.{Each, each_split}
 use Rattle.dp_semantics.proofs.Heads.{accesses_all, all_well}
 use Rattle.dp_semantics.proofs.Setting.{Sound}
-use Rattle.dp_net.specs.Quiet.{Outcome, Through, Broke}
+use Rattle.dp_net.specs.Quiet.{BlockOutcome, Through, Broke}
 unfoldable use Rattle.dp_net.specs.Quiet.{quiet_from}
 use Rattle.dp_net.specs.NetItems.{Marks, Item, Net, net_of, weights, item_list}
 use Rattle.dp_net.specs.NetRun.{NetTurn, NetEnded, net_past, net_made, net_met, net_by, net_step, block_step}
 unfoldable use Rattle.dp_net.specs.NetRun.{net_from}
-use Rattle.dp_net.specs.Follows.{Follows, met}
+use Rattle.dp_net.specs.Follows.{FollowsText, met}
 use Rattle.dp_net.proofs.Blocks.{effects_of}
 use Rattle.dp_net.proofs.Silent.{AllQuiet}
 use Rattle.dp_net.proofs.Groups.{Marked}
-use Rattle.dp_net.proofs.NetBounds.{made_some}
+use Rattle.dp_net.proofs.BlockSteps.{made_some}
 use Rattle.dp_net.proofs.Projections.{Kept}
 use Rattle.dp_net.proofs.Reading.{follows_same, FoundBlock, read_block, read_past_block}
 use Rattle.dp_net.proofs.Texts.{site_at, Text}
@@ -24,10 +26,8 @@ module _ (p : Program) (plan : Plan) (m : Marks) (input : List ℤ) (marked : Ma
   abbrev stage : ℕ
   stage = suc s
 
-  module _ (n : ℕ) (go : TellsIn p plan m input marked s n) (x : Stmt) (cells : List ℤ) (lists : List (List Item)) (own : List Item) (closing : Bool) (e : NetEnded) where
-    abbrev h : Stmt-F Stmt
-    h = out-Stmt x
-
+  module _ (n : ℕ) (go : TellsIn p plan m input marked s n) (x : Stmt) (cells : List ℤ) (lists : List (List Item)) (own : List Item) (closing : Bool)
+      (e : NetEnded) where
     abbrev u : ℕ
     u = stage_of p plan (site_at x)
 
@@ -38,7 +38,8 @@ module _ (p : Program) (plan : Plan) (m : Marks) (input : List ℤ) (marked : Ma
     turn xs = record { to_do = xs; cells = cells; lists = lists; own = own; closing = closing }
 
     -- a block at the head
-    module _ (b more : List Stmt) (at : m.block_at (site_at x) ≡ x ∷ b) (r : ReadableText p plan m input marked s (x ∷ (b ++ more))) (text : Text m more) (came : Came p plan m input marked s (x ∷ (b ++ more)) left) where
+    module _ (b more : List Stmt) (at : m.block_at (site_at x) ≡ x ∷ b) (r : ReadableText p plan m input marked s (x ∷ (b ++ more))) (text : Text m more)
+        (came : Came p plan m input marked s (x ∷ (b ++ more)) left) where
       quiet : AllQuiet p plan u (x ∷ b)
       quiet = marked.quiet (site_at x) x b at
 
@@ -63,12 +64,12 @@ module _ (p : Program) (plan : Plan) (m : Marks) (input : List ℤ) (marked : Ma
       came_past : u ≡ stage → Came p plan m input marked s more left
       came_past here = by s refl came
         where
-          by : (t : ℕ) → s ≡ t → Follows p plan m (part p plan m input marked s t (x ∷ (b ++ more))) left →
-              Follows p plan m (part p plan m input marked s t more) left
+          by : (t : ℕ) → s ≡ t → FollowsText p plan m (part p plan m input marked s t (x ∷ (b ++ more))) left →
+              FollowsText p plan m (part p plan m input marked s t more) left
           by zero is f = f
           by (suc t) is f = read_past_block p plan m (suc t) u x b more at quiet (omega (arith, here, is)) f
 
-      made_tells : u ≡ stage → (o : Outcome) → quiet_from p input (plan.words - weights own) (x ∷ b) cells ≡ o →
+      made_tells : u ≡ stage → (o : BlockOutcome) → quiet_from p input (plan.words - weights own) (x ∷ b) cells ≡ o →
           net_by p plan m input stage (net_from p plan m input stage n) (net_made p plan m (site_at x) (turn (x ∷ (b ++ more))) more o) ≡ Some e →
           Tells p plan m input marked s (x ∷ (b ++ more)) left own e
       made_tells here Broke is q = absurd (cc q)
@@ -79,7 +80,8 @@ module _ (p : Program) (plan : Plan) (m : Marks) (input : List ℤ) (marked : Ma
           record {
             more = item ∷ t.more;
             own_is = t.own_is ∙ append_assoc own (item ∷ []) t.more;
-            follows = met {next = with_own stage t.more left} (length events) stores at refl (made_some p plan m input s (plan.words - weights own) x b cells events after is) (told_stores (m.hides u) (effects_of events))
+            follows = met {next = with_own stage t.more left} (length events) stores at refl (made_some p input (plan.words - weights own) x b cells events
+                after is) (told_stores (m.hides u) (effects_of events))
                 (with_here stage (item ∷ t.more) left u here ∙ ap (λ (is : List Item). item ∷ is) (sym (with_here stage t.more left u here)))
                 (λ y differs. with_other stage t.more left y (λ same. differs (same ∙ sym here))
                 ∙ sym (with_other stage (item ∷ t.more) left y (λ same. differs (same ∙ sym here)))) t.follows;
@@ -88,7 +90,7 @@ module _ (p : Program) (plan : Plan) (m : Marks) (input : List ℤ) (marked : Ma
       found_block : (u ≡ stage → ⊥) → FoundBlock p plan m s x more left
       found_block other = by s refl came
         where
-          by : (t : ℕ) → s ≡ t → Follows p plan m (part p plan m input marked s t (x ∷ (b ++ more))) left → FoundBlock p plan m t x more left
+          by : (t : ℕ) → s ≡ t → FollowsText p plan m (part p plan m input marked s t (x ∷ (b ++ more))) left → FoundBlock p plan m t x more left
           by zero is f = let reach = block_reach in let real = low_block in absurd (other (omega (arith, reach, real, is)))
           by (suc t) is f = read_block p plan m (suc t) u x b more at quiet (not_own block_reach) f
             where
@@ -103,7 +105,8 @@ module _ (p : Program) (plan : Plan) (m : Marks) (input : List ℤ) (marked : Ma
           lists_next : List (List Item)
           lists_next = slice_set lists (u - 1) (f.next u)
 
-          met_is : net_met p plan (site_at x) (turn (x ∷ (b ++ more))) more (left u) ≡ Some (net_past p plan (turn (x ∷ (b ++ more))) more (applied f.stores cells) lists_next own)
+          met_is : net_met p plan (site_at x) (turn (x ∷ (b ++ more))) more (left u) ≡ Some (net_past p plan (turn (x ∷ (b ++ more))) more
+              (applied f.stores cells) lists_next own)
           met_is = ap (net_met p plan (site_at x) (turn (x ∷ (b ++ more))) more) f.front
               ∙ rw (eq-eqb (site_at x) (site_at x) refl, lt-ltb 0 f.count f.some) refl
 
@@ -113,13 +116,14 @@ module _ (p : Program) (plan : Plan) (m : Marks) (input : List ℤ) (marked : Ma
           later : Came p plan m input marked s more (item_list lists_next)
           later = by s refl f.later
             where
-              by : (t : ℕ) → s ≡ t → Follows p plan m (project_all p plan t more) f.next →
-                  Follows p plan m (part p plan m input marked s t more) (item_list lists_next)
+              by : (t : ℕ) → s ≡ t → FollowsText p plan m (project_all p plan t more) f.next →
+                  FollowsText p plan m (part p plan m input marked s t more) (item_list lists_next)
               by zero is k = let reach = block_reach in let real = low_block in absurd (other (omega (arith, reach, real, is)))
               by (suc t) is k = follows_same p plan m k (item_list lists_next) same
 
           t : Tells p plan m input marked s more (item_list lists_next) own e
-          t = go more behind (applied f.stores cells) lists_next own closing e later (sym (ap (net_by p plan m input stage (net_from p plan m input stage n)) met_is) ∙ q)
+          t = go more behind (applied f.stores cells) lists_next own closing e later
+              (sym (ap (net_by p plan m input stage (net_from p plan m input stage n)) met_is) ∙ q)
 
           tells : Tells p plan m input marked s (x ∷ (b ++ more)) left own e
           tells = record {

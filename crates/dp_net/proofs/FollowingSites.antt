@@ -1,5 +1,9 @@
 -- A turn over lists that follow the earlier stages' text tells what its own asks for: what holds, and a site outside of the blocks.
-use Rattle.dp_semantics.proofs.Names.{◌≡◌, inl, inr, refl, sym, ap, ◌∙◌, subst, append_assoc, ℕ, zero, suc, ◌+◌, ◌-◌, ◌<◌, ◌≤◌, ◌==◌, Bool, true, false, ◌&&◌, ◌||◌, if◌then◌else◌, List, [], ◌∷◌, ◌++◌, ℤ, length, Option, Some, None, Ok, Err, arith, nat_le, eq-eqb, eqb-true, slice_set, and_parts, cases_Bool, cases_eq, Stmt, out-Stmt, Stmt-F, Program, Plan, Word, Evaluated, evaluated, WithLoads, Event, Effect, site_of, value_of, stored, followed, stage_of, first_site, closes_at, event_as_assumed, words_of, project_all, Access, accesses, well_nested}
+use Rattle.dp_semantics.proofs.Names.{◌≡◌, inl, inr, refl, sym, ap, ◌∙◌, subst, append_assoc, ℕ, zero, suc, ◌+◌, ◌-◌, ◌<◌, ◌≤◌, ◌==◌, Bool, true, false, ◌&&◌}
+use Rattle.dp_semantics.proofs.Names.{◌||◌, if◌then◌else◌, List, [], ◌∷◌, ◌++◌, ℤ, length, Option, Some, None, Ok, Err, arith, nat_le, eq-eqb, eqb-true}
+use Rattle.dp_semantics.proofs.Names.{slice_set, and_parts, cases_Bool, cases_eq, Stmt, out-Stmt, Stmt-F, Program, Plan, Word, Evaluated, evaluated, WithLoads}
+use Rattle.dp_semantics.proofs.Names.{Event, Effect, site_of, value_of, stored, followed, stage_of, first_site, closes_at, event_as_assumed, words_of}
+use Rattle.dp_semantics.proofs.Names.{project_all, Access, accesses, well_nested}
 use Rattle.dp_semantics.proofs.Each.{Each, each_map, each_split}
 use Rattle.dp_semantics.proofs.Evaluation.{Form, head_loads, Readable, evaluated_tracks}
 use Rattle.dp_semantics.proofs.Heads.{accesses_all, accesses_at, accesses_out, head_access, all_well, well_at, well_out}
@@ -11,7 +15,7 @@ use Rattle.dp_theorem.proofs.Source.{well_parts, each_joins, each_parts, head_fa
 use Rattle.dp_net.specs.NetItems.{Marks, Item, weights, said_all, item_list, NetTaken, net_taken_from}
 use Rattle.dp_net.specs.NetRun.{NetTurn, NetEnded, net_turned, net_own_step, net_consumed_step, net_by}
 unfoldable use Rattle.dp_net.specs.NetRun.{net_from}
-use Rattle.dp_net.specs.Follows.{Others, Follows, told}
+use Rattle.dp_net.specs.Follows.{Others, FollowsText, told}
 use Rattle.dp_net.proofs.Groups.{Marked}
 use Rattle.dp_net.proofs.Projections.{Kept, AllKept}
 use Rattle.dp_net.proofs.Reading.{said_taken, follows_same, Found, read_site, read_past}
@@ -29,7 +33,7 @@ module _ (p : Program) (plan : Plan) (m : Marks) (input : List ℤ) (marked : Ma
   part (suc t) xs = project_all p plan (suc t) xs
 
   abbrev pub Came : List Stmt → (ℕ → List Item) → Type 0
-  Came xs left = Follows p plan m (part s xs) left
+  Came xs left = FollowsText p plan m (part s xs) left
 
   pub record ReadableText (xs : List Stmt) : Type 0 where
     pub well : all_well p plan xs ≡ true
@@ -40,7 +44,7 @@ module _ (p : Program) (plan : Plan) (m : Marks) (input : List ℤ) (marked : Ma
   pub record Tells (xs : List Stmt) (left : ℕ → List Item) (own : List Item) (e : NetEnded) : Type 0 where
     pub more : List Item
     pub own_is : e.own ≡ own ++ more
-    pub follows : Follows p plan m xs (with_own stage more left)
+    pub follows : FollowsText p plan m xs (with_own stage more left)
 
   abbrev pub TellsIn : ℕ → Type 0
   TellsIn n = (xs : List Stmt) → ReadableText xs → (cells : List ℤ) (lists : List (List Item)) (own : List Item) (closing : Bool) (e : NetEnded) →
@@ -88,7 +92,9 @@ module _ (p : Program) (plan : Plan) (m : Marks) (input : List ℤ) (marked : Ma
           (each_joins (Kept p plan stage (Sound p plan))) x rest h z r.sites sites.1 (each_parts (Kept p plan stage (Sound p plan)) h sites.0)
 
       form_here : (v : WithLoads Effect) → evaluated p input cells h ≡ Ok v → Form p h v.value
-      form_here v q = (evaluated_tracks p input cells cells (λ l. Unit {0}) h own_site.0.room (each_map (λ y. 0 < Rattle.dp_tree.specs.Eval.cell_count p (record { 0 = y })) (Readable p cells (λ l. Unit {0})) (λ y k. (k, λ c i. tt)) (head_loads h) own_site.0.reads) v q).value
+      form_here v q = (evaluated_tracks p input cells cells (λ l. Unit {0}) h own_site.0.room
+          (each_map (λ y. 0 < Rattle.dp_tree.specs.Eval.cell_count p (record { 0 = y })) (Readable p cells (λ l. Unit {0})) (λ y k. (k, λ c i. tt))
+          (head_loads h) own_site.0.reads) v q).value
 
       -- a site outside of the blocks
       module _ (plain : Plain m x) (texts : (z : ℤ) → Text m (followed x rest h z)) where
@@ -100,7 +106,7 @@ module _ (p : Program) (plan : Plan) (m : Marks) (input : List ℤ) (marked : Ma
             Came (followed x rest h (value_of effect)) left
         own_past here effect form assumed = by s refl came
           where
-            by : (t : ℕ) → s ≡ t → Follows p plan m (part t (x ∷ rest)) left → Follows p plan m (part t (followed x rest h (value_of effect))) left
+            by : (t : ℕ) → s ≡ t → FollowsText p plan m (part t (x ∷ rest)) left → FollowsText p plan m (part t (followed x rest h (value_of effect))) left
             by zero is f = f
             by (suc t) is f = read_past p plan m (suc t) x rest well parts.1 (omega arith) (omega (arith, here, is)) effect form assumed f
 
@@ -130,7 +136,13 @@ module _ (p : Program) (plan : Plan) (m : Marks) (input : List ℤ) (marked : Ma
                   more = said_all ws ++ t.more;
                   own_is = t.own_is ∙ append_assoc own (said_all ws) t.more;
                   follows = told {next = with_own stage t.more left} event plain.0
-                      (record { site = refl; does = effect_of_word p h (site_of h).0 v.value form; assumed = assumed; front = with_here stage (said_all ws ++ t.more) left u here ∙ ap (λ (is : List Item). said_all ws ++ is) (sym (with_here stage t.more left u here)) })
+                      (record {
+                        site = refl;
+                        does = effect_of_word p h (site_of h).0 v.value form;
+                        assumed = assumed;
+                        front = with_here stage (said_all ws
+                            ++ t.more) left u here ∙ ap (λ (is : List Item). said_all ws ++ is) (sym (with_here stage t.more left u here));
+                      })
                       (λ y differs. with_other stage t.more left y (λ same. differs (same ∙ sym here))
                       ∙ sym (with_other stage (said_all ws ++ t.more) left y (λ same. differs (same ∙ sym here)))) t.follows;
                 }
@@ -138,7 +150,7 @@ module _ (p : Program) (plan : Plan) (m : Marks) (input : List ℤ) (marked : Ma
         found : (u ≡ stage → ⊥) → Found p plan m s x rest left
         found other = by s refl came
           where
-            by : (t : ℕ) → s ≡ t → Follows p plan m (part t (x ∷ rest)) left → Found p plan m t x rest left
+            by : (t : ℕ) → s ≡ t → FollowsText p plan m (part t (x ∷ rest)) left → Found p plan m t x rest left
             by zero is f = let reach = own_site.1 in let real = low in absurd (other (omega (arith, reach, real, is)))
             by (suc t) is f = read_site p plan m (suc t) x rest well parts.1 (let reach = own_site.1 in not_own reach) plain.0 f
               where
@@ -156,8 +168,24 @@ module _ (p : Program) (plan : Plan) (m : Marks) (input : List ℤ) (marked : Ma
                 let clash : Some (record { effect = f.event.effect; rest = f.next u }) ≡ Some w = sym (said_taken p plan h f.event (left u)
                 (f.next u) f.says) ∙ is in
                 let same : record { effect = f.event.effect; rest = f.next u } ≡ w = cc clash in
-                let went : net_from p plan m input stage n (record { to_do = followed x rest h (value_of f.event.effect); cells = stored f.event.effect cells; lists = slice_set lists (u - 1) (f.next u); own = own; closing = closing || closes_at (first_site p plan) (site_of h).0 f.event.effect }) ≡ Some e =
-                ap (λ (t : NetTaken). net_from p plan m input stage n (record { to_do = followed x rest h (value_of t.effect); cells = stored t.effect cells; lists = slice_set lists (u - 1) t.rest; own = own; closing = closing || closes_at (first_site p plan) (site_of h).0 t.effect })) same ∙ q in
+                let went : net_from p plan m input stage n
+                (record {
+                  to_do = followed x rest h (value_of f.event.effect);
+                  cells = stored f.event.effect cells;
+                  lists = slice_set lists (u - 1) (f.next
+                      u);
+                  own = own;
+                  closing = closing || closes_at (first_site p plan) (site_of h).0 f.event.effect;
+                }) ≡ Some e =
+                ap (λ (t : NetTaken). net_from p plan m input stage n
+                (record {
+                  to_do = followed x rest h (value_of t.effect);
+                  cells = stored t.effect cells;
+                  lists = slice_set lists (u
+                      - 1) t.rest;
+                  own = own;
+                  closing = closing || closes_at (first_site p plan) (site_of h).0 t.effect;
+                })) same ∙ q in
                 let wide = within f in
                 let lists_next = list_others p plan m lists u (f.next u) f.next low wide refl f.others in
                 let t = go (followed x rest h (value_of f.event.effect)) (next_text (value_of f.event.effect)) (stored f.event.effect cells)
@@ -190,8 +218,8 @@ module _ (p : Program) (plan : Plan) (m : Marks) (input : List ℤ) (marked : Ma
                     Came (followed x rest h (value_of f.event.effect)) (item_list (slice_set lists (u - 1) (f.next u)))
                 later_came f same = by s refl f.later
                   where
-                    by : (t : ℕ) → s ≡ t → Follows p plan m (project_all p plan t (followed x rest h (value_of f.event.effect))) f.next →
-                        Follows p plan m (part t (followed x rest h (value_of f.event.effect))) (item_list (slice_set lists (u - 1) (f.next u)))
+                    by : (t : ℕ) → s ≡ t → FollowsText p plan m (project_all p plan t (followed x rest h (value_of f.event.effect))) f.next →
+                        FollowsText p plan m (part t (followed x rest h (value_of f.event.effect))) (item_list (slice_set lists (u - 1) (f.next u)))
                     by zero is k = let reach = own_site.1 in let real = low in absurd (other (omega (arith, reach, real, is)))
                     by (suc t) is k = follows_same p plan m k (item_list (slice_set lists (u - 1) (f.next u))) same
 

@@ -1,10 +1,15 @@
 -- Words in groups: a list of words and a list of items that stand for the same groups.
-use Rattle.dp_semantics.proofs.Names.{◌≡◌, inl, inr, refl, sym, ap, ◌∙◌, subst, append_assoc, ℕ, zero, suc, ◌-◌, ◌<◌, ◌==◌, Bool, true, false, ◌&&◌, if◌then◌else◌, List, [], ◌∷◌, ◌++◌, ℤ, length, length-append, map, Option, Some, None, unwrap_or, Ok, Err, Result, arith, ne_eqb, slice_get, nat_lt, get_or, sum_by, sum_by-cons, unwrap_or-slice_get, and-false, cases_Bool, cases_eq, Stmt, out-Stmt, Stmt-F, Program, Plan, Word, Event, Effect, site_of, stage_of, effect_by, done_word, is_load_of, is_done_of, after_loads_of, Taken, taken_from, Void, word_list}
+use Rattle.dp_semantics.proofs.Names.{◌≡◌, inl, inr, refl, sym, ap, ◌∙◌, subst, append_assoc, ℕ, zero, suc, ◌-◌, ◌<◌, ◌==◌, Bool, true, false, ◌&&◌}
+use Rattle.dp_semantics.proofs.Names.{if◌then◌else◌, List, [], ◌∷◌, ◌++◌, ℤ, length, length-append, map, Option, Some, None, unwrap_or, Ok, Err, Result, arith}
+use Rattle.dp_semantics.proofs.Names.{ne_eqb, slice_get, nat_lt, get_or, sum_by, sum_by-cons, unwrap_or-slice_get, and-false, cases_Bool, cases_eq, Stmt}
+use Rattle.dp_semantics.proofs.Names.{out-Stmt, Stmt-F, Program, Plan, Word, Event, Effect, site_of, stage_of, effect_by, done_word, is_load_of, is_done_of}
+use Rattle.dp_semantics.proofs.Names.{after_loads_of, Taken, taken_from, Void, word_list}
 use Rattle.dp_semantics.specs.Words.{Astray, done_from, taken_by, is_load}
 use Rattle.dp_semantics.proofs.Each.{Each}
 use Rattle.dp_semantics.proofs.Ways.{Goes, stays, goes, event_of}
 use Rattle.dp_semantics.proofs.Taking.{word_list_is}
-use Rattle.dp_net.specs.NetItems.{begins, Marks, net_of, Item, Said, Net, weight, weights, items_in, item_list, behind_loads, NetTaken, net_taken_by, net_done_from, net_taken_from}
+use Rattle.dp_net.specs.NetItems.{begins, Marks, net_of, Item, Said, Net, weight, weights, items_in, item_list, behind_loads, NetTaken, net_taken_by}
+use Rattle.dp_net.specs.NetItems.{net_done_from, net_taken_from}
 use Rattle.dp_net.specs.NetRun.{NetTurn, net_met}
 use Rattle.dp_net.proofs.Silent.{AllQuiet}
 use Rattle.dp_net.proofs.Blocks.{said, said_length, effects_of}
@@ -120,7 +125,8 @@ module _ (p : Program) (plan : Plan) (m : Marks) where
       where
         clash : x ∷ b ≡ [] → ⊥
         clash q = absurd (cc q)
-    first_event (goes {x = y} {v = v} {events = events} gave path) x b e n = let same : y ≡ x = cc e in record { event = event_of (out-Stmt y) v; more = events; is = refl; site = ap (λ (z : Stmt). (site_of (out-Stmt z)).0) same }
+    first_event (goes {x = y} {v = v} {events = events} gave path) x b e n =
+        let same : y ≡ x = cc e in record { event = event_of (out-Stmt y) v; more = events; is = refl; site = ap (λ (z : Stmt). (site_of (out-Stmt z)).0) same }
 
     module _ (marked : Marked) where
       -- a block's first word is of its first site
@@ -222,5 +228,9 @@ module _ (p : Program) (plan : Plan) (m : Marks) where
         | inr q ↦
             let r = first_word e events g.0 in
             let apart : (r.0.site == f) ≡ false = ne_eqb r.0.site f (λ at. q (sym r.3 ∙ at)) in
-            other (λ head at. (Astray (site_of head).0 (Some (done_word r.0.site r.0.effect)), ap (λ (es : List Event). taken_from p head (said es ++ flats gs)) r.2 ∙ rw (at, apart) (rw (at, apart) refl))) (rw (ne_eqb e f q) refl)
+            other (λ head at. (
+              Astray (site_of head).0 (Some (done_word r.0.site r.0.effect)),
+              ap (λ (es : List Event). taken_from p head
+                  (said es ++ flats gs)) r.2 ∙ rw (at, apart) (rw (at, apart) refl),
+            )) (rw (ne_eqb e f q) refl)
       ]

@@ -1,5 +1,8 @@
 -- A turn only adds words of its own.
-use Rattle.dp_semantics.proofs.Names.{◌≡◌, refl, sym, ap, ◌∙◌, append_assoc, append-nil, ℕ, zero, suc, ◌-◌, ◌==◌, Bool, true, false, if◌then◌else◌, List, [], ◌∷◌, ◌++◌, ℤ, length, Ok, Err, Result, nat_le, slice_set, Stmt, out-Stmt, Stmt-F, Program, Plan, Word, Evaluated, evaluated, Event, Effect, words_of, Full, Void, Taken, taken_from, Turn, Ended, turned, turn_by, turn_at, turn_step, own_step, consumed_step, stage_at, words_left}
+use Rattle.dp_semantics.proofs.Names.{◌≡◌, refl, sym, ap, ◌∙◌, append_assoc, append-nil, ℕ, zero, suc, ◌-◌, ◌==◌, Bool, true, false, if◌then◌else◌, List, []}
+use Rattle.dp_semantics.proofs.Names.{◌∷◌, ◌++◌, ℤ, length, Ok, Err, Result, nat_le, slice_set, Stmt, out-Stmt, Stmt-F, Program, Plan, Word, Evaluated}
+use Rattle.dp_semantics.proofs.Names.{evaluated, Event, Effect, words_of, Full, Void, Taken, taken_from, Turn, Ended, turned, turn_by, turn_at, turn_step}
+use Rattle.dp_semantics.proofs.Names.{own_step, consumed_step, stage_at, words_left}
 unfoldable use Rattle.dp_semantics.proofs.Names.{turn_from}
 use Rattle.dp_semantics.proofs.Ways.{event_of}
 
@@ -13,7 +16,8 @@ module _ (p : Program) (plan : Plan) (input : List ℤ) (s : ℕ) where
       produced_grows : (event : Event) (b : Bool) →
           (if b then Ok (turned p plan c x rest h event.effect (c.own ++ words_of p plan event) c.lists) else Err Full) ≡ Ok d → Grown c d.own
       produced_grows event true e =
-          let same : turned p plan c x rest h event.effect (c.own ++ words_of p plan event) c.lists ≡ d = cc e in (words_of p plan event, ap (λ (t : Turn). t.own) (sym same))
+          let same : turned p plan c x rest h event.effect (c.own ++ words_of p plan event) c.lists ≡ d = cc e in
+          (words_of p plan event, ap (λ (t : Turn). t.own) (sym same))
       produced_grows event false e = absurd (cc e)
 
       own_grows : (r : Evaluated Effect) → own_step p plan c x rest h r ≡ Ok d → Grown c d.own
@@ -30,7 +34,8 @@ module _ (p : Program) (plan : Plan) (input : List ℤ) (s : ℕ) where
           )
 
       by : (b : Bool) →
-          (if b then own_step p plan c x rest h (evaluated p input c.cells h) else consumed_step p plan c x rest h (taken_from p h (words_left p plan c h))) ≡ Ok d → Grown c d.own
+          (if b then own_step p plan c x rest h (evaluated p input c.cells h) else consumed_step p plan c x rest h (taken_from p h (words_left p plan c h)))
+          ≡ Ok d → Grown c d.own
       by true e = own_grows (evaluated p input c.cells h) e
       by false e = taken_grows (taken_from p h (words_left p plan c h)) e
 

@@ -1,5 +1,9 @@
 -- What a plan's blocks are, and what a site loads isn't hidden from it.
-use Rattle.dp_semantics.proofs.Names.{◌≡◌, inl, inr, refl, sym, ap, ◌∙◌, ℕ, ◌<◌, ◌==◌, Bool, true, false, not, ◌&&◌, ◌||◌, List, [], ◌∷◌, length, list_all, list_any, Option, Some, None, arith, nat_lt, eq-eqb, eqb-true, ltb-true, and_parts, or-true, cases_Bool, Stmt, out-Stmt, roll-Stmt, roll-out-Stmt, opened_statement, rolls-Assign, rolls-Store, rolls-Print, rolls-If, rolls-While, rolls-Region, rolls-Break, rolls-Call, Stmt-F, Assign, Store, Print, If, While, Region, Break, Call, Program, Plan, site_of, stage_of, cell_count, first_cell, Access, region_accesses, is_body_local, is_local_at, is_checked, has_cell, last}
+use Rattle.dp_semantics.proofs.Names.{◌≡◌, inl, inr, refl, sym, ap, ◌∙◌, ℕ, ◌<◌, ◌==◌, Bool, true, false, not, ◌&&◌, ◌||◌, List, [], ◌∷◌, length, list_all}
+use Rattle.dp_semantics.proofs.Names.{list_any, Option, Some, None, arith, nat_lt, eq-eqb, eqb-true, ltb-true, and_parts, or-true, cases_Bool, Stmt, out-Stmt}
+use Rattle.dp_semantics.proofs.Names.{roll-Stmt, roll-out-Stmt, opened_statement, rolls-Assign, rolls-Store, rolls-Print, rolls-If, rolls-While, rolls-Region}
+use Rattle.dp_semantics.proofs.Names.{rolls-Break, rolls-Call, Stmt-F, Assign, Store, Print, If, While, Region, Break, Call, Program, Plan, site_of, stage_of}
+use Rattle.dp_semantics.proofs.Names.{cell_count, first_cell, Access, region_accesses, is_body_local, is_local_at, is_checked, has_cell, last}
 use Rattle.dp_tree.specs.declared.Stmt.TheVariants as tree
 use Rattle.dp_tree.specs.Numbering.{numbers_from}
 use Rattle.dp_tree.specs.Statements.{everywhere}
@@ -15,9 +19,6 @@ use Rattle.dp_net.specs.Hidden.{loads_var, home, at_home, is_private, is_hidden_
 use Rattle.dp_net.proofs.Ready.{Ready}
 
 module _ (p : Program) (plan : Plan) where
-  numbers : List ℕ
-  numbers = numbers_from 0 (length p.vars)
-
   -- the site keeps to what is asked of hidden variables, and its own variables have cells
   abbrev pub is_clear : Access → ℕ → Bool
   is_clear a x = not (is_private p plan x) || at_home p plan x a

@@ -1,5 +1,7 @@
 -- Lists of items by their stage: what one is after another was set, or behind others.
-use Rattle.dp_semantics.proofs.Names.{◌≡◌, inl, inr, refl, sym, ap, ◌∙◌, ℕ, zero, suc, ◌-◌, ◌<◌, ◌≤◌, ◌==◌, if◌then◌else◌, List, [], ◌∷◌, ◌++◌, length, arith, eq-eqb, ne_eqb, get_or, get_or_past, get_or-set_at, get_or-set_other, get_or_append_left, get_or-append_seam, slice_set, cases_eq, cases_lt, Program, Plan, Word}
+use Rattle.dp_semantics.proofs.Names.{◌≡◌, inl, inr, refl, sym, ap, ◌∙◌, ℕ, zero, suc, ◌-◌, ◌<◌, ◌≤◌, ◌==◌, if◌then◌else◌, List, [], ◌∷◌, ◌++◌, length, arith}
+use Rattle.dp_semantics.proofs.Names.{eq-eqb, ne_eqb, get_or, get_or_past, get_or-set_at, get_or-set_other, get_or_append_left, get_or-append_seam, slice_set}
+use Rattle.dp_semantics.proofs.Names.{cases_eq, cases_lt, Program, Plan, Word}
 use Rattle.dp_net.specs.NetItems.{Marks, Item, said_all, item_list}
 use Rattle.dp_net.specs.Follows.{Others}
 use Rattle.dp_net.proofs.Groups.{item_list_is}

@@ -1,5 +1,8 @@
 -- Memories that agree but for cells that other stages hide, and what net stores make of them.
-use Rattle.dp_semantics.proofs.Names.{◌≡◌, inl, inr, refl, sym, ap, ◌∙◌, ℕ, ◌<◌, ◌==◌, Bool, true, false, if◌then◌else◌, List, [], ◌∷◌, ℤ, pos, length, length-set, Option, Some, None, unwrap_or, arith, eq-eqb, eqb-true, ne_eqb, slice_set, get_or, get_or_past, get_or-set_other, get_or-set_at, list_any, cases_Bool, cases_eq, cases_lt, or_parts, Effect, Stored, Printed, Decided, Tried, stored, applied}
+use Rattle.dp_semantics.proofs.Names.{◌≡◌, inl, inr, refl, sym, ap, ◌∙◌, ℕ, ◌<◌, ◌==◌, Bool, true, false, if◌then◌else◌, List, [], ◌∷◌, ℤ, pos, length}
+use Rattle.dp_semantics.proofs.Names.{length-set, Option, Some, None, unwrap_or, arith, eq-eqb, eqb-true, ne_eqb, slice_set, get_or, get_or_past}
+use Rattle.dp_semantics.proofs.Names.{get_or-set_other, get_or-set_at, list_any, cases_Bool, cases_eq, cases_lt, or_parts, Effect, Stored, Printed, Decided}
+use Rattle.dp_semantics.proofs.Names.{Tried, stored, applied}
 use Rattle.std.specs.Option.{option_or}
 use Rattle.dp_net.specs.NetItems.{Marks, stores_into, put, told_after, net_behind, net_of}
 

@@ -1,5 +1,6 @@
 -- A turn over items ends as the definition's turn over the words that they stand for.
-use Rattle.dp_semantics.proofs.Names.{◌≡◌, refl, sym, subst, ℕ, zero, suc, ◌+◌, ◌-◌, Bool, true, List, [], ◌∷◌, ◌++◌, ℤ, list_all, arith, Stmt, out-Stmt, Program, Plan, followed, TurnEnd}
+use Rattle.dp_semantics.proofs.Names.{◌≡◌, refl, sym, subst, ℕ, zero, suc, ◌+◌, ◌-◌, Bool, true, List, [], ◌∷◌, ◌++◌, ℤ, list_all, arith, Stmt, out-Stmt}
+use Rattle.dp_semantics.proofs.Names.{Program, Plan, followed, TurnEnd}
 unfoldable use Rattle.dp_net.proofs.Strict.{strict_from}
 use Rattle.dp_semantics.proofs.Followed.{Parts}
 use Rattle.dp_net.specs.NetItems.{Marks}
@@ -18,7 +19,8 @@ module _ (p : Program) (plan : Plan) (m : Marks) (input : List ℤ) (marked : Ma
     AlikeIn k = (n : ℕ) (to_do : List Stmt) (cells mem : List ℤ) (groups : List (List Group)) (made : List Group) (closing : Bool) →
         Held p plan m input marked test ready s to_do cells mem groups made → Enough p plan m input marked test ready s k groups made →
         Enough p plan m input marked test ready s n groups made →
-        SameEnd p plan m input marked test ready s (strict_from p plan input s n (word_turn p plan m input marked test ready s to_do cells groups made closing)) (net_from p plan m input s k (item_turn p plan m input marked test ready s to_do mem groups made closing))
+        SameEnd p plan m input marked test ready s (strict_from p plan input s n (word_turn p plan m input marked test ready s to_do cells groups made closing))
+        (net_from p plan m input s k (item_turn p plan m input marked test ready s to_do mem groups made closing))
 
     module _ (k : ℕ) (go : AlikeIn k) (n : ℕ) (x : Stmt) (cells mem : List ℤ) (groups : List (List Group)) (made : List Group) (closing : Bool) where
       at_site : (rest : List Stmt) → Held p plan m input marked test ready s (x ∷ rest) cells mem groups made →
@@ -28,7 +30,8 @@ module _ (p : Program) (plan : Plan) (m : Marks) (input : List ℤ) (marked : Ma
           (word_turn p plan m input marked test ready s (x ∷ rest) cells groups made closing))
           (net_from p plan m input s (suc k) (item_turn p plan m input marked test ready s (x ∷ rest) mem groups made closing))
       unfolding strict_from net_from
-      at_site rest held many more plain texts = site_case p plan m input marked test ready s x rest cells mem groups made closing held plain texts (strict_from p plan input s n) (net_from p plan m input s k)
+      at_site rest held many more plain texts = site_case p plan m input marked test ready s x rest cells mem groups made closing held plain texts
+          (strict_from p plan input s n) (net_from p plan m input s k)
           (λ to_do cells' mem' groups' made' closing' held' paid. go n to_do cells' mem' groups' made' closing' held' (omega (arith, many, paid))
           (omega (arith, more, paid)))
 
@@ -46,7 +49,10 @@ module _ (p : Program) (plan : Plan) (m : Marks) (input : List ℤ) (marked : Ma
               (word_turn p plan m input marked test ready s (x ∷ (b ++ rest)) cells groups made closing))
               (net_by p plan m input s (net_from p plan m input s k)
               (net_step p plan m input s (item_turn p plan m input marked test ready s (x ∷ (b ++ rest)) mem groups made closing) x (b ++ rest)))
-          by (broken nothing stops) = let r = stops (suc n) more in subst (λ (u : TurnEnd). SameEnd p plan m input marked test ready s u (net_by p plan m input s (net_from p plan m input s k) (net_step p plan m input s (item_turn p plan m input marked test ready s (x ∷ (b ++ rest)) mem groups made closing) x (b ++ rest)))) (sym r.1) (rw nothing tt)
+          by (broken nothing stops) = let r = stops (suc n) more in
+              subst (λ (u : TurnEnd). SameEnd p plan m input marked test ready s u (net_by p plan m input s (net_from p plan m input s k)
+              (net_step p plan m input s (item_turn p plan m input marked test ready s (x ∷ (b ++ rest)) mem groups made closing) x (b ++ rest))))
+              (sym r.1) (rw nothing tt)
           by (gone w) =
               let h = w.held_then in
               let fits = h.fits in
@@ -60,7 +66,8 @@ module _ (p : Program) (plan : Plan) (m : Marks) (input : List ℤ) (marked : Ma
     unfolding strict_from net_from
     alike zero n to_do cells mem groups made closing held many more = let fits = held.fits in absurd (omega (arith, many, fits))
     alike (suc k) zero to_do cells mem groups made closing held many more = let fits = held.fits in absurd (omega (arith, more, fits))
-    alike (suc k) (suc n) [] cells mem groups made closing held many more = record { made = made; own = refl; net = refl; good = held.made_good; cells = held.agrees; closing = refl }
+    alike (suc k) (suc n) [] cells mem groups made closing held many more =
+        record { made = made; own = refl; net = refl; good = held.made_good; cells = held.agrees; closing = refl }
     alike (suc k) (suc n) (x ∷ rest) cells mem groups made closing held many more = elim (headed m p plan input marked x rest held.text) [
       | alone plain texts ↦ at_site k (alike k) n x cells mem groups made closing rest held many more plain texts
       | joined b behind at is text ↦

@@ -1,8 +1,10 @@
 -- What a stage sends for an iteration is what its turn from some memory makes of what came; and a packet that doesn't go on stays so.
-use Rattle.dp_semantics.proofs.Names.{◌≡◌, refl, sym, ap, ◌∙◌, ℕ, zero, suc, true, false, not, List, ℤ, Option, Some, None, slice_get, StageKind, Par, Seq, Epoch, cleared}
+use Rattle.dp_semantics.proofs.Names.{◌≡◌, refl, sym, ap, ◌∙◌, ℕ, zero, suc, true, false, not, List, ℤ, Option, Some, None, slice_get, StageKind, Par, Seq}
+use Rattle.dp_semantics.proofs.Names.{Epoch, cleared}
 use Rattle.dp_net.specs.NetItems.{Marks}
 use Rattle.dp_net.specs.NetRun.{NetEnded, net_run}
-use Rattle.dp_net.specs.NetPackets.{NetStatus, NetGoing, NetClosing, NetVoid, NetPacket, NetPassed, net_passed, net_passed_on, net_run_on, net_at_kind, net_at_sequential}
+use Rattle.dp_net.specs.NetPackets.{NetStatus, NetGoing, NetClosing, NetVoid, NetPacket, NetPassed, net_passed, net_passed_on, net_run_on, net_at_kind}
+use Rattle.dp_net.specs.NetPackets.{net_at_sequential}
 use Rattle.dp_semantics.specs.EpochKey.{epoch_of}
 use Rattle.dp_net.specs.BatchItems.{EndsStay}
 use Rattle.dp_net.specs.Batches.{is_onward, ends_batch}

@@ -1,5 +1,9 @@
 -- The judgement of items is the definition's judgement of the words that they stand for.
-use Rattle.dp_semantics.proofs.Names.{◌≡◌, inl, inr, refl, sym, ap, ◌∙◌, subst, ℕ, zero, suc, ◌+◌, ◌-◌, ◌<◌, ◌≤◌, ◌==◌, Bool, true, false, ◌&&◌, ◌||◌, if◌then◌else◌, List, [], ◌∷◌, ◌++◌, ℤ, length, list_all, Option, Some, None, Err, Result, nat_le, lt-ltb, arith, le-leb, lt-leb, eq-eqb, slice_set, get_or_past, and_parts, cases_Bool, cases_lt, drop-append_seam, Stmt, out-Stmt, Stmt-F, Program, Plan, Word, Event, Effect, site_of, value_of, stored, followed, stage_of, first_site, is_load_of, as_assumed, word_list, Void, Taken, taken_from, closes_at, applied, Judging, Unclean, loads_hold, judged, judge_by, last}
+use Rattle.dp_semantics.proofs.Names.{◌≡◌, inl, inr, refl, sym, ap, ◌∙◌, subst, ℕ, zero, suc, ◌+◌, ◌-◌, ◌<◌, ◌≤◌, ◌==◌, Bool, true, false, ◌&&◌, ◌||◌}
+use Rattle.dp_semantics.proofs.Names.{if◌then◌else◌, List, [], ◌∷◌, ◌++◌, ℤ, length, list_all, Option, Some, None, Err, Result, nat_le, lt-ltb, arith, le-leb}
+use Rattle.dp_semantics.proofs.Names.{lt-leb, eq-eqb, slice_set, get_or_past, and_parts, cases_Bool, cases_lt, drop-append_seam, Stmt, out-Stmt, Stmt-F}
+use Rattle.dp_semantics.proofs.Names.{Program, Plan, Word, Event, Effect, site_of, value_of, stored, followed, stage_of, first_site, is_load_of, as_assumed}
+use Rattle.dp_semantics.proofs.Names.{word_list, Void, Taken, taken_from, closes_at, applied, Judging, Unclean, loads_hold, judged, judge_by, last}
 unfoldable use Rattle.dp_semantics.proofs.Names.{judge_from}
 use Rattle.dp_semantics.specs.Judge.{judged_by}
 use Rattle.dp_semantics.specs.Words.{is_load}
@@ -16,21 +20,25 @@ use Rattle.dp_net.proofs.Silent.{AllQuiet}
 use Rattle.dp_net.proofs.Blocks.{said, effects_of, sites_of, at_turn}
 use Rattle.dp_net.proofs.BlockTurns.{judge_block, judge_short, all_of_stage}
 use Rattle.dp_net.proofs.Memories.{Agrees, agree_stored, agree_net}
-use Rattle.dp_net.proofs.Groups.{Group, One, Block, flats, items, all_flats, all_items, group_list, words_of_groups, items_of_groups, Marked, Good, Alike, both, none, taken_alike, Meets, whole, other, meets, Missing, first_word}
+use Rattle.dp_net.proofs.Groups.{Group, One, Block, flats, items, all_flats, all_items, group_list, words_of_groups, items_of_groups, Marked, Good, Alike, both}
+use Rattle.dp_net.proofs.Groups.{none, taken_alike, Meets, whole, other, meets, Missing, first_word}
 use Rattle.dp_net.proofs.Texts.{site_at, Plain, Text, alone, joined, headed}
 use Rattle.dp_net.proofs.Ready.{Ready, steady_head, steady_next, steady_split, each_set, each_get}
 use Rattle.dp_net.proofs.SiteRuns.{Held, word_turn, item_turn}
 use Rattle.dp_net.proofs.ToldAlike.{Told, told_more, told_one, told_block, SameVerdict}
 
-module _ (p : Program) (plan : Plan) (m : Marks) (input : List ℤ) (marked : Marked p plan m input) (test : Stmt → Bool) (ready : (x : Stmt) → test x ≡ true → Ready p plan m (out-Stmt x) × Parts (λ xs. list_all test xs ≡ true) (out-Stmt x)) where
+module _ (p : Program) (plan : Plan) (m : Marks) (input : List ℤ) (marked : Marked p plan m input) (test : Stmt → Bool)
+    (ready : (x : Stmt) → test x ≡ true → Ready p plan m (out-Stmt x) × Parts (λ xs. list_all test xs ≡ true) (out-Stmt x)) where
   abbrev at_last : ℕ
   at_last = last plan
 
   abbrev words_at : List Stmt → List ℤ → List (List Group) → Bool → List Effect → List ℕ → Judging
-  words_at to_do cells groups closing effects sites = record { turn = word_turn p plan m input marked test ready at_last to_do cells groups [] closing; effects = effects; sites = sites }
+  words_at to_do cells groups closing effects sites =
+      record { turn = word_turn p plan m input marked test ready at_last to_do cells groups [] closing; effects = effects; sites = sites }
 
   abbrev items_at : List Stmt → List ℤ → List (List Group) → Bool → List Effect → List ℕ → ℕ → NetJudging
-  items_at to_do mem groups closing effects sites steps = record { turn = item_turn p plan m input marked test ready at_last to_do mem groups [] closing; effects = effects; sites = sites; steps = steps }
+  items_at to_do mem groups closing effects sites steps =
+      record { turn = item_turn p plan m input marked test ready at_last to_do mem groups [] closing; effects = effects; sites = sites; steps = steps }
 
   abbrev Holds : List Stmt → List ℤ → List ℤ → List (List Group) → Type 0
   Holds to_do cells mem groups = Held p plan m input marked test ready at_last to_do cells mem groups []
@@ -50,11 +58,14 @@ module _ (p : Program) (plan : Plan) (m : Marks) (input : List ℤ) (marked : Ma
   ]
 
   abbrev JudgeGoal : ℕ → ℕ → Type 0
-  JudgeGoal limit k = (n steps : ℕ) (to_do : List Stmt) (cells mem : List ℤ) (groups : List (List Group)) (closing : Bool) (sites : List ℕ) (effects : List Effect) (net_sites : List ℕ) (net_effects : List Effect) → steps + n ≡ limit → n < k →
+  JudgeGoal limit k = (n steps : ℕ) (to_do : List Stmt) (cells mem : List ℤ) (groups : List (List Group)) (closing : Bool) (sites : List ℕ)
+      (effects : List Effect) (net_sites : List ℕ) (net_effects : List Effect) → steps + n ≡ limit → n < k →
       Holds to_do cells mem groups → Told p plan m sites effects net_sites net_effects steps →
-      SameVerdict p plan m (judge_from p plan n (words_at to_do cells groups closing effects sites)) (net_judge_from p plan m limit k (items_at to_do mem groups closing net_effects net_sites steps))
+      SameVerdict p plan m (judge_from p plan n (words_at to_do cells groups closing effects sites))
+      (net_judge_from p plan m limit k (items_at to_do mem groups closing net_effects net_sites steps))
 
-  module _ (limit k : ℕ) (go : JudgeGoal limit k) (steps : ℕ) (x : Stmt) (cells mem : List ℤ) (groups : List (List Group)) (closing : Bool) (sites : List ℕ) (effects : List Effect) (net_sites : List ℕ) (net_effects : List Effect)
+  module _ (limit k : ℕ) (go : JudgeGoal limit k) (steps : ℕ) (x : Stmt) (cells mem : List ℤ) (groups : List (List Group)) (closing : Bool) (sites : List ℕ)
+      (effects : List Effect) (net_sites : List ℕ) (net_effects : List Effect)
       (told : Told p plan m sites effects net_sites net_effects steps) where
     abbrev h : Stmt-F Stmt
     h = out-Stmt x
@@ -77,15 +88,25 @@ module _ (p : Program) (plan : Plan) (m : Marks) (input : List ℤ) (marked : Ma
 
       -- a site outside of the blocks, where a step is left
       at_site : (n : ℕ) → steps + suc n ≡ limit → suc n < suc k → Plain m x → ((z : ℤ) → Text m (followed x rest h z)) →
-          SameVerdict p plan m (judge_from p plan (suc n) (words_at (x ∷ rest) cells groups closing effects sites)) (net_judge_from p plan m limit (suc k) (items_at (x ∷ rest) mem groups closing net_effects net_sites steps))
+          SameVerdict p plan m (judge_from p plan (suc n) (words_at (x ∷ rest) cells groups closing effects sites))
+          (net_judge_from p plan m limit (suc k) (items_at (x ∷ rest) mem groups closing net_effects net_sites steps))
       unfolding judge_from net_judge_from
       at_site n within more plain texts =
-          rw (plain.0, le-leb (steps + 1) limit (omega (arith, within)), words_there, items_there, loads_alike (site_of h).0 cells mem held.agrees (group_list p plan m groups t) there_good)
-          (by _ _ (taken_alike p plan m input marked h plain.1 (group_list p plan m groups t) there_good) (net_loads_hold (site_of h).0 mem (items p plan m (group_list p plan m groups t))))
+          rw (
+            plain.0,
+            le-leb (steps + 1) limit (omega (arith, within)),
+            words_there,
+            items_there,
+            loads_alike (site_of h).0 cells mem held.agrees (group_list p
+                plan m groups t) there_good,
+          )
+          (by _ _ (taken_alike p plan m input marked h plain.1 (group_list p plan m groups t) there_good)
+          (net_loads_hold (site_of h).0 mem (items p plan m (group_list p plan m groups t))))
         where
           by : (u : Result Taken Void) (w : Option NetTaken) → Alike p plan m input marked u w → (b : Bool) →
               SameVerdict p plan m (judge_by (judge_from p plan n) (judged_by p plan (words_at (x ∷ rest) cells groups closing effects sites) x rest h b u))
-              (net_judge_by p plan (net_judge_from p plan m limit k) (net_judged_by p plan (items_at (x ∷ rest) mem groups closing net_effects net_sites steps) x rest h b w))
+              (net_judge_by p plan (net_judge_from p plan m limit k)
+              (net_judged_by p plan (items_at (x ∷ rest) mem groups closing net_effects net_sites steps) x rest h b w))
           by u w (none why) b = tt
           by u w (both effect gs good) b = by_test (b && as_assumed p plan (site_of h).0 effect)
             where
@@ -105,18 +126,26 @@ module _ (p : Program) (plan : Plan) (m : Marks) (input : List ℤ) (marked : Ma
                 fits = omega arith;
               }
 
-              told_then : Told p plan m (sites ++ (site_of h).0 ∷ []) (effects ++ effect ∷ []) (net_sites ++ (site_of h).0 ∷ []) (net_effects ++ effect ∷ []) (steps + 1)
+              told_then : Told p plan m (sites ++ (site_of h).0 ∷ []) (effects ++ effect ∷ []) (net_sites ++ (site_of h).0 ∷ [])
+                  (net_effects ++ effect ∷ []) (steps + 1)
               told_then = told_more p plan m sites effects net_sites net_effects steps _ _ _ _ 1 told (told_one p plan m (site_of h).0 effect)
 
               by_test : (b : Bool) →
-                  SameVerdict p plan m (judge_by (judge_from p plan n) (if b then Some (judged p plan (words_at (x ∷ rest) cells groups closing effects sites) x rest h (record { effect = effect; rest = flats gs })) else None))
-                  (net_judge_by p plan (net_judge_from p plan m limit k) (if b then Some (net_judged p plan (items_at (x ∷ rest) mem groups closing net_effects net_sites steps) x rest h (record { effect = effect; rest = items p plan m gs })) else None))
+                  SameVerdict p plan m
+                  (judge_by (judge_from p plan n) (if b then Some (judged p plan (words_at (x ∷ rest) cells groups closing effects sites) x rest h
+                  (record { effect = effect; rest = flats gs })) else None))
+                  (net_judge_by p plan (net_judge_from p plan m limit k)
+                  (if b then Some (net_judged p plan (items_at (x ∷ rest) mem groups closing net_effects net_sites steps) x rest h
+                  (record { effect = effect; rest = items p plan m gs })) else None))
               by_test false = tt
-              by_test true = rw (sets, net_sets) (go n (steps + 1) (followed x rest h (value_of effect)) (stored effect cells) (stored effect mem) (slice_set groups (t - 1) gs) (closing || closes_at (first_site p plan) (site_of h).0 effect) _ _ _ _ (omega (arith, within)) (omega (arith, more)) held_then told_then)
+              by_test true = rw (sets, net_sets) (go n (steps + 1) (followed x rest h (value_of effect)) (stored effect cells) (stored effect mem)
+                  (slice_set groups (t - 1) gs) (closing || closes_at (first_site p plan) (site_of h).0 effect) _ _ _ _ (omega (arith, within))
+                  (omega (arith, more)) held_then told_then)
 
       -- .. and where none is left
       at_spent : steps ≡ limit → Plain m x →
-          SameVerdict p plan m (judge_from p plan 0 (words_at (x ∷ rest) cells groups closing effects sites)) (net_judge_from p plan m limit (suc k) (items_at (x ∷ rest) mem groups closing net_effects net_sites steps))
+          SameVerdict p plan m (judge_from p plan 0 (words_at (x ∷ rest) cells groups closing effects sites))
+          (net_judge_from p plan m limit (suc k) (items_at (x ∷ rest) mem groups closing net_effects net_sites steps))
       unfolding judge_from net_judge_from
       at_spent within plain = rw (plain.0, lt-leb (steps + 1) limit (omega (arith, within))) tt
 
@@ -140,7 +169,8 @@ module _ (p : Program) (plan : Plan) (m : Marks) (input : List ℤ) (marked : Ma
       list_good = each_get (Each (Good p plan m input)) groups (t - 1) [] held.good tt
 
       step_is : net_judge_step p plan m limit (items_at (x ∷ (b ++ rest)) mem groups closing net_effects net_sites steps) x (b ++ rest)
-          ≡ block_judged p plan limit (items_at (x ∷ (b ++ rest)) mem groups closing net_effects net_sites steps) (site_at x) rest (items p plan m (group_list p plan m groups t))
+          ≡ block_judged p plan limit (items_at (x ∷ (b ++ rest)) mem groups closing net_effects net_sites steps) (site_at x) rest
+          (items p plan m (group_list p plan m groups t))
       step_is = rw (at, drop-append_seam b rest, items_of_groups p plan m groups t low)
 
       missing : (is : List Item) → Missing p plan m input marked (site_at x) is →
@@ -163,7 +193,8 @@ module _ (p : Program) (plan : Plan) (m : Marks) (input : List ℤ) (marked : Ma
       refused words (suc n) = rw (list_is, words.1) refl
 
       at_block : (n : ℕ) → steps + n ≡ limit → n < suc k → Meets p plan m input marked (site_at x) (group_list p plan m groups t) →
-          SameVerdict p plan m (judge_from p plan n (words_at (x ∷ (b ++ rest)) cells groups closing effects sites)) (net_judge_from p plan m limit (suc k) (items_at (x ∷ (b ++ rest)) mem groups closing net_effects net_sites steps))
+          SameVerdict p plan m (judge_from p plan n (words_at (x ∷ (b ++ rest)) cells groups closing effects sites))
+          (net_judge_from p plan m limit (suc k) (items_at (x ∷ (b ++ rest)) mem groups closing net_effects net_sites steps))
       unfolding net_judge_from
       at_block n within more (other words no_item) = rw (step_is, missing (items p plan m (group_list p plan m groups t)) no_item, refused (words h refl) n) tt
       at_block n within more (whole events gs is w good) =
@@ -171,7 +202,8 @@ module _ (p : Program) (plan : Plan) (m : Marks) (input : List ℤ) (marked : Ma
           (elim (cases_lt n (length events)) [
             | inl few ↦ rw (short few, lt-leb (steps + length events) limit (omega (arith, within, few))) tt
             | inr enough ↦ rw (le-leb (steps + length events) limit (omega (arith, within, enough)), goes_on enough, net_sets)
-                (go (n - length events) (steps + length events) rest (applied (effects_of events) cells) (applied (net_of (m.hides t) (effects_of events)) mem) (slice_set groups (t - 1) gs) closing _ _ _ _
+                (go (n - length events) (steps + length events) rest (applied (effects_of events) cells) (applied (net_of (m.hides t) (effects_of events)) mem)
+                (slice_set groups (t - 1) gs) closing _ _ _ _
                 (omega (arith, within, enough)) (omega (arith, more, some, enough)) held_then told_then)
           ])
         where
@@ -179,11 +211,20 @@ module _ (p : Program) (plan : Plan) (m : Marks) (input : List ℤ) (marked : Ma
           some = let r = first_word p plan m input marked (site_at x) events w in subst (λ (es : List Event). 0 < length es) (sym r.2) (omega arith)
 
           next_if : Bool → Option NetJudging
-          next_if u = if u then Some (record { turn = net_past p plan (item_turn p plan m input marked test ready at_last (x ∷ (b ++ rest)) mem groups [] closing) rest (applied (net_of (m.hides t) (effects_of events)) mem) (slice_set (all_items p plan m groups) (t - 1) (items p plan m gs)) []; effects = net_effects ++ net_of (m.hides t) (effects_of events); sites = net_sites ++ sites_for (site_at x) (net_of (m.hides t) (effects_of events)); steps = steps + length events }) else None
+          next_if u = if u then Some
+              (record {
+                turn = net_past p plan (item_turn p plan m input marked test ready at_last (x ∷ (b ++ rest)) mem groups [] closing) rest (applied
+                    (net_of (m.hides t) (effects_of events)) mem) (slice_set (all_items p plan m groups) (t - 1) (items p plan m gs)) [];
+                effects = net_effects ++ net_of (m.hides t) (effects_of events);
+                sites = net_sites ++ sites_for (site_at x) (net_of (m.hides t) (effects_of events));
+                steps = steps + length events;
+              }) else None
 
-          met : net_judge_step p plan m limit (items_at (x ∷ (b ++ rest)) mem groups closing net_effects net_sites steps) x (b ++ rest) ≡ next_if (nat_le (steps + length events) limit)
+          met : net_judge_step p plan m limit (items_at (x ∷ (b ++ rest)) mem groups closing net_effects net_sites steps) x (b ++ rest) ≡ next_if
+              (nat_le (steps + length events) limit)
           met = step_is
-              ∙ ap (λ (all : List Group). block_judged p plan limit (items_at (x ∷ (b ++ rest)) mem groups closing net_effects net_sites steps) (site_at x) rest (items p plan m all)) is ∙ rw (eq-eqb (site_at x) (site_at x) refl, lt-ltb 0 (length events) some) refl
+              ∙ ap (λ (all : List Group). block_judged p plan limit (items_at (x ∷ (b ++ rest)) mem groups closing net_effects net_sites steps) (site_at x) rest
+              (items p plan m all)) is ∙ rw (eq-eqb (site_at x) (site_at x) refl, lt-ltb 0 (length events) some) refl
 
           path : Goes p input (x ∷ b) w.cells events [] w.after
           path = let same : w.x ∷ w.b ≡ x ∷ b = sym w.at ∙ at in subst (λ (ys : List Stmt). Goes p input ys w.cells events [] w.after) same w.path
@@ -204,10 +245,17 @@ module _ (p : Program) (plan : Plan) (m : Marks) (input : List ℤ) (marked : Ma
           net_sets = sym (map-set (items p plan m) groups (t - 1) gs)
 
           goes_on : length events ≤ n → judge_from p plan n (words_at (x ∷ (b ++ rest)) cells groups closing effects sites)
-              ≡ judge_from p plan (n - length events) (words_at rest (applied (effects_of events) cells) (slice_set groups (t - 1) gs) closing (effects ++ effects_of events) (sites ++ sites_of events))
+              ≡ judge_from p plan (n - length events) (words_at rest (applied (effects_of events) cells) (slice_set groups (t - 1) gs) closing
+              (effects ++ effects_of events) (sites ++ sites_of events))
           goes_on enough =
-              judge_block p plan t input path quiet low rest cells (all_flats p plan m groups) [] closing (flats gs) wide front effects sites n (n - length events) (omega (arith, enough))
-              ∙ ap (λ (ls : List (List Word)). judge_from p plan (n - length events) (record { turn = at_turn rest (applied (effects_of events) cells) ls [] closing; effects = effects ++ effects_of events; sites = sites ++ sites_of events })) sets
+              judge_block p plan t input path quiet low rest cells (all_flats p plan m groups) [] closing (flats gs) wide front effects sites n
+              (n - length events) (omega (arith, enough))
+              ∙ ap (λ (ls : List (List Word)). judge_from p plan (n - length events)
+              (record {
+                turn = at_turn rest (applied (effects_of events) cells) ls [] closing;
+                effects = effects ++ effects_of events;
+                sites = sites ++ sites_of events;
+              })) sets
 
           held_then : Holds rest (applied (effects_of events) cells) (applied (net_of (m.hides t) (effects_of events)) mem) (slice_set groups (t - 1) gs)
           held_then = record {
@@ -219,28 +267,45 @@ module _ (p : Program) (plan : Plan) (m : Marks) (input : List ℤ) (marked : Ma
             fits = omega arith;
           }
 
-          told_then : Told p plan m (sites ++ sites_of events) (effects ++ effects_of events) (net_sites ++ sites_for (site_at x) (net_of (m.hides t) (effects_of events))) (net_effects ++ net_of (m.hides t) (effects_of events)) (steps + length events)
-          told_then = told_more p plan m sites effects net_sites net_effects steps _ _ _ _ (length events) told (told_block p plan m (site_at x) events early (all_of_stage p plan t input path quiet))
+          told_then : Told p plan m (sites ++ sites_of events) (effects ++ effects_of events)
+              (net_sites ++ sites_for (site_at x) (net_of (m.hides t) (effects_of events))) (net_effects ++ net_of (m.hides t) (effects_of events))
+              (steps + length events)
+          told_then = told_more p plan m sites effects net_sites net_effects steps _ _ _ _ (length events) told
+              (told_block p plan m (site_at x) events early (all_of_stage p plan t input path quiet))
 
   -- The judgement of the items is that of the words.
   pub judge_alike : (limit k : ℕ) → JudgeGoal limit k
   unfolding judge_from net_judge_from
   judge_alike limit zero n steps to_do cells mem groups closing sites effects net_sites net_effects within more held told = absurd (omega (arith, more))
-  judge_alike limit (suc k) zero steps [] cells mem groups closing sites effects net_sites net_effects within more held told = record { told = told; closing = refl }
-  judge_alike limit (suc k) (suc n) steps [] cells mem groups closing sites effects net_sites net_effects within more held told = record { told = told; closing = refl }
-  judge_alike limit (suc k) zero steps (x ∷ rest) cells mem groups closing sites effects net_sites net_effects within more held told = elim (headed m p plan input marked x rest held.text) [
-    | alone plain texts ↦ at_spent limit k (judge_alike limit k) steps x cells mem groups closing sites effects net_sites net_effects told rest held (omega (arith, within)) plain
-    | joined b behind at is text ↦
-        subst (λ (ys : List Stmt). Holds (x ∷ ys) cells mem groups →
-        SameVerdict p plan m (judge_from p plan zero (words_at (x ∷ ys) cells groups closing effects sites)) (net_judge_from p plan m limit (suc k) (items_at (x ∷ ys) mem groups closing net_effects net_sites steps))) (sym is)
-        (λ hold. at_block limit k (judge_alike limit k) steps x cells mem groups closing sites effects net_sites net_effects told b behind hold at text zero within more
-        (meets p plan m input marked (site_at x) (marked.within (site_at x) x b at) _ (list_good limit k (judge_alike limit k) steps x cells mem groups closing sites effects net_sites net_effects told b behind hold at text))) held
-  ]
-  judge_alike limit (suc k) (suc n) steps (x ∷ rest) cells mem groups closing sites effects net_sites net_effects within more held told = elim (headed m p plan input marked x rest held.text) [
-    | alone plain texts ↦ at_site limit k (judge_alike limit k) steps x cells mem groups closing sites effects net_sites net_effects told rest held n within more plain texts
-    | joined b behind at is text ↦
-        subst (λ (ys : List Stmt). Holds (x ∷ ys) cells mem groups →
-        SameVerdict p plan m (judge_from p plan (suc n) (words_at (x ∷ ys) cells groups closing effects sites)) (net_judge_from p plan m limit (suc k) (items_at (x ∷ ys) mem groups closing net_effects net_sites steps))) (sym is)
-        (λ hold. at_block limit k (judge_alike limit k) steps x cells mem groups closing sites effects net_sites net_effects told b behind hold at text (suc n) within more
-        (meets p plan m input marked (site_at x) (marked.within (site_at x) x b at) _ (list_good limit k (judge_alike limit k) steps x cells mem groups closing sites effects net_sites net_effects told b behind hold at text))) held
-  ]
+  judge_alike limit (suc k) zero steps [] cells mem groups closing sites effects net_sites net_effects within more held told =
+      record { told = told; closing = refl }
+  judge_alike limit (suc k) (suc n) steps [] cells mem groups closing sites effects net_sites net_effects within more held told =
+      record { told = told; closing = refl }
+  judge_alike limit (suc k) zero steps (x ∷ rest) cells mem groups closing sites effects net_sites net_effects within more held told =
+      elim (headed m p plan input marked x rest held.text) [
+        | alone plain texts ↦ at_spent limit k (judge_alike limit k) steps x cells mem groups closing sites effects net_sites net_effects told rest held
+            (omega (arith, within)) plain
+        | joined b behind at is text ↦
+            subst (λ (ys : List Stmt). Holds (x ∷ ys) cells mem groups →
+            SameVerdict p plan m (judge_from p plan zero (words_at (x ∷ ys) cells groups closing effects sites))
+            (net_judge_from p plan m limit (suc k) (items_at (x ∷ ys) mem groups closing net_effects net_sites steps))) (sym is)
+            (λ hold. at_block limit k (judge_alike limit k) steps x cells mem groups closing sites effects net_sites net_effects told b behind hold at
+            text zero within more
+            (meets p plan m input marked (site_at x) (marked.within (site_at x) x b at) _
+            (list_good limit k (judge_alike limit k) steps x cells mem groups closing
+            sites effects net_sites net_effects told b behind hold at text))) held
+      ]
+  judge_alike limit (suc k) (suc n) steps (x ∷ rest) cells mem groups closing sites effects net_sites net_effects within more held told =
+      elim (headed m p plan input marked x rest held.text) [
+        | alone plain texts ↦ at_site limit k (judge_alike limit k) steps x cells mem groups closing sites effects net_sites net_effects told rest held n
+            within more plain texts
+        | joined b behind at is text ↦
+            subst (λ (ys : List Stmt). Holds (x ∷ ys) cells mem groups →
+            SameVerdict p plan m (judge_from p plan (suc n) (words_at (x ∷ ys) cells groups closing effects sites))
+            (net_judge_from p plan m limit (suc k) (items_at (x ∷ ys) mem groups closing net_effects net_sites steps))) (sym is)
+            (λ hold. at_block limit k (judge_alike limit k) steps x cells mem groups closing sites effects net_sites net_effects told b behind hold at
+            text (suc n) within more
+            (meets p plan m input marked (site_at x) (marked.within (site_at x) x b at) _
+            (list_good limit k (judge_alike limit k) steps x cells mem groups closing
+            sites effects net_sites net_effects told b behind hold at text))) held
+      ]

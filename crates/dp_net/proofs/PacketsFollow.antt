@@ -1,10 +1,12 @@
 -- In a packet that isn't void each list is what following its stage's text asks for.
-use Rattle.dp_semantics.proofs.Names.{◌≡◌, ◌⊎◌, refl, sym, ap, ◌∙◌, subst, ℕ, zero, suc, ◌+◌, ◌<◌, ◌≤◌, Bool, true, false, List, [], ◌∷◌, ◌++◌, ℤ, length, length-append, Option, Some, None, arith, slice_get, sum_by, cases_eq, cases_lt, inl, inr, Stmt, project_all, region_statement, Epoch}
+use Rattle.dp_semantics.proofs.Names.{◌≡◌, ◌⊎◌, refl, sym, ap, ◌∙◌, subst, ℕ, zero, suc, ◌+◌, ◌<◌, ◌≤◌, Bool, true, false, List, [], ◌∷◌, ◌++◌, ℤ, length}
+use Rattle.dp_semantics.proofs.Names.{length-append, Option, Some, None, arith, slice_get, sum_by, cases_eq, cases_lt, inl, inr, Stmt, project_all}
+use Rattle.dp_semantics.proofs.Names.{region_statement, Epoch}
 use Rattle.dp_semantics.proofs.Setting.{Accepted}
 use Rattle.dp_net.specs.NetItems.{Marks, Item, weights, item_list}
 use Rattle.dp_net.specs.NetRun.{NetEnded, net_run}
 use Rattle.dp_net.specs.NetPackets.{NetStatus, NetGoing, NetClosing, NetVoid, NetPacket, NetPassed, net_passed, net_passed_on, net_run_on}
-use Rattle.dp_net.specs.Follows.{PacketFollows, Follows, ended, is_void}
+use Rattle.dp_net.specs.Follows.{PacketFollows, FollowsText, ended, is_void}
 use Rattle.dp_net.proofs.Projections.{text_well, text_sites, earlier_part}
 use Rattle.dp_net.proofs.Reading.{follows_same}
 use Rattle.dp_net.proofs.FollowingSites.{ReadableText, Tells}
@@ -38,7 +40,7 @@ module _ {k : Epoch} {m : Marks} {test : Stmt → Bool} (q : Quieted k m test) (
   -- the lists of stage s, one for each stage, follow its text
   record Followed (s : ℕ) (packet : NetPacket) : Type 0 where
     size : length packet.lists ≡ s
-    follows : (t : ℕ) → s ≡ suc t → Follows program plan m (project_all program plan s (region_statement program plan)) (item_list packet.lists)
+    follows : (t : ℕ) → s ≡ suc t → FollowsText program plan m (project_all program plan s (region_statement program plan)) (item_list packet.lists)
 
   text_readable : (s : ℕ) → ReadableText program plan m input q.marked s (project_all program plan (suc s) (region_statement program plan))
   text_readable s = record {
@@ -56,7 +58,7 @@ module _ {k : Epoch} {m : Marks} {test : Stmt → Bool} (q : Quieted k m test) (
       text : List Stmt
       text = project_all program plan (suc s) (region_statement program plan)
 
-      came_is : Follows program plan m (Rattle.dp_net.proofs.FollowingSites.part program plan m input q.marked s s text) (item_list came.lists)
+      came_is : FollowsText program plan m (Rattle.dp_net.proofs.FollowingSites.part program plan m input q.marked s s text) (item_list came.lists)
       came_is = by s refl
         where
           none_there : (lists : List (List Item)) → length lists ≡ 0 → (t : ℕ) → item_list lists t ≡ []
@@ -64,16 +66,17 @@ module _ {k : Epoch} {m : Marks} {test : Stmt → Bool} (q : Quieted k m test) (
           none_there lists e (suc t) = list_past program plan m lists (suc t) (omega arith) (omega (arith, e))
 
           by : (r : ℕ) → s ≡ r →
-              Follows program plan m (Rattle.dp_net.proofs.FollowingSites.part program plan m input q.marked s r (project_all program plan (suc r)
+              FollowsText program plan m (Rattle.dp_net.proofs.FollowingSites.part program plan m input q.marked s r (project_all program plan (suc r)
               (region_statement program plan))) (item_list came.lists)
           by zero e = let size = f.size in ended (none_there came.lists (omega (arith, size, e)))
-          by (suc r) e = subst (λ (xs : List Stmt). Follows program plan m xs (item_list came.lists))
+          by (suc r) e = subst (λ (xs : List Stmt). FollowsText program plan m xs (item_list came.lists))
               (sym (earlier_part ok (suc r) (suc (suc r)) (omega arith) (omega arith)))
-              (subst (λ (t : ℕ). Follows program plan m (project_all program plan t (region_statement program plan))
+              (subst (λ (t : ℕ). FollowsText program plan m (project_all program plan t (region_statement program plan))
               (item_list came.lists)) e (f.follows r e))
 
       told : Tells program plan m input q.marked s text (item_list came.lists) [] l.ended_as
-      told = tells program plan m input q.marked s (plan.words + sum_by weights came.lists + 1) text (text_readable s) before came.lists [] false l.ended_as came_is l.ends
+      told = tells program plan m input q.marked s (plan.words + sum_by weights came.lists + 1) text (text_readable s) before came.lists [] false
+          l.ended_as came_is l.ends
 
       lists_are : (t : ℕ) → item_list left.lists t ≡ with_own (suc s) told.more (item_list came.lists) t
       lists_are t = ap (λ (ls : List (List Item)). item_list ls t) l.lists ∙ by t

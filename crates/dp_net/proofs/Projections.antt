@@ -1,5 +1,9 @@
 -- The text of a stage: its sites are those of the text up to the stage, it is well nested, and an earlier stage has the same part of it as of the whole text.
-use Rattle.dp_semantics.proofs.Names.{◌≡◌, refl, sym, ap, ◌∙◌, subst, append-nil, ℕ, ◌<◌, ◌≤◌, Bool, true, false, ◌&&◌, ◌||◌, if◌then◌else◌, List, [], ◌∷◌, ◌++◌, Option, Some, None, is_some, nat_le, arith, leb-true, list_all-append, flat_map-append, and_parts, and_from, cases_Bool, cases_lt, inl, inr, SiteId, Expr, Stmt, Row_of-Stmt, end_of-Stmt, more_of-Stmt, outs-If, If, While, Program, Plan, stage_of, Access, accesses, accesses_in, assumed_in, branch_of, where_reached, project, project_in, project_all, region_statement, none_earlier, well_nested, well_nested_in}
+use Rattle.dp_semantics.proofs.Names.{◌≡◌, refl, sym, ap, ◌∙◌, subst, append-nil, ℕ, ◌<◌, ◌≤◌, Bool, true, false, ◌&&◌, ◌||◌, if◌then◌else◌, List, [], ◌∷◌}
+use Rattle.dp_semantics.proofs.Names.{◌++◌, Option, Some, None, is_some, nat_le, arith, leb-true, list_all-append, flat_map-append, and_parts, and_from}
+use Rattle.dp_semantics.proofs.Names.{cases_Bool, cases_lt, inl, inr, SiteId, Expr, Stmt, Row_of-Stmt, end_of-Stmt, more_of-Stmt, outs-If, If, While, Program}
+use Rattle.dp_semantics.proofs.Names.{Plan, stage_of, Access, accesses, accesses_in, assumed_in, branch_of, where_reached, project, project_in, project_all}
+use Rattle.dp_semantics.proofs.Names.{region_statement, none_earlier, well_nested, well_nested_in}
 use Rattle.dp_tree.specs.declared.Stmt.TheVariants as tree
 use Rattle.dp_tree.specs.declared.Stmt.TheVariants.{outs-While}
 use Rattle.dp_semantics.proofs.Each.{Each, each_map, each_split, each_join, all_of, all_make}
@@ -37,7 +41,8 @@ module _ (p : Program) (plan : Plan) where
       kept_if : (site : SiteId) (cond : Expr) (a b : List Stmt) → Kept (Rattle.dp_semantics.proofs.Heads.head_access (If site cond a b)) →
           AllKept a → AllKept b → AllKept (tree.If site cond a b ∷ [])
       kept_if site cond a b own h k = kept_one (tree.If site cond a b)
-          (subst (λ (l : List Access). Each Kept l) (sym (accesses_out (tree.If site cond a b) ∙ ap accesses_at (outs-If site cond a b))) (own, each_join Kept (accesses_all a) (accesses_all b) h k))
+          (subst (λ (l : List Access). Each Kept l) (sym (accesses_out (tree.If site cond a b) ∙ ap accesses_at (outs-If site cond a b)))
+          (own, each_join Kept (accesses_all a) (accesses_all b) h k))
 
       kept_while : (site : SiteId) (cond : Expr) (a : List Stmt) → Kept (Rattle.dp_semantics.proofs.Heads.head_access (While site cond a)) →
           AllKept a → AllKept (tree.While site cond a ∷ [])
@@ -55,9 +60,11 @@ module _ (p : Program) (plan : Plan) where
             let parts = each_split Q (accesses_in a) (accesses_in b) h.1 in
             let one = kept_row a both.0 parts.0 in
             let two = kept_row b both.1 parts.1 in
-            by_reach s site.0 AllKept _ _ (λ low. kept_if site cond (project_in p plan s a) (project_in p plan s b) (h.0, low) one two) (branch_has AllKept (assumed_in plan.assume site.0) _ _ tt one two)
+            by_reach s site.0 AllKept _ _ (λ low. kept_if site cond (project_in p plan s a) (project_in p plan s b) (h.0, low) one two)
+            (branch_has AllKept (assumed_in plan.assume site.0) _ _ tt one two)
         kept_sites (tree.While' site cond _ a) well h =
-            let one = kept_row a (and_parts _ _ well).1 h.1 in by_reach s site.0 AllKept _ [] (λ low. kept_while site cond (project_in p plan s a) (h.0, low) one) tt
+            let one = kept_row a (and_parts _ _ well).1 h.1 in
+            by_reach s site.0 AllKept _ [] (λ low. kept_while site cond (project_in p plan s a) (h.0, low) one) tt
         kept_sites (tree.Region' r site cond _ a) well h = absurd (cc)
         kept_sites (tree.Call f line args) well h = tt
 
@@ -67,14 +74,16 @@ module _ (p : Program) (plan : Plan) where
             let both = and_parts _ _ well in
             let parts = each_split Q (accesses x) (accesses_in rest) h in
             subst (λ (l : List Access). Each Kept l) (sym (flat_map-append accesses (project p plan s x) (project_in p plan s rest)))
-            (each_join Kept (accesses_all (project p plan s x)) (accesses_all (project_in p plan s rest)) (kept_sites x both.0 parts.0) (kept_row rest both.1 parts.1))
+            (each_join Kept (accesses_all (project p plan s x)) (accesses_all (project_in p plan s rest)) (kept_sites x both.0 parts.0)
+            (kept_row rest both.1 parts.1))
 
     -- no site of these is in an earlier stage than this one
     abbrev NotBefore : ℕ → Access → Type 0
     NotBefore site a = nat_le (stage_of p plan site) (stage_of p plan a.site) ≡ true
 
     still_later : (site : ℕ) (xs : List Stmt) → Each (Kept (NotBefore site)) (accesses_all xs) → none_earlier p plan site (accesses_all xs) ≡ true
-    still_later site xs h = all_make (λ a. nat_le (stage_of p plan site) (stage_of p plan a.site)) (accesses_all xs) (each_map (Kept (NotBefore site)) (NotBefore site) (λ a k. k.0) (accesses_all xs) h)
+    still_later site xs h = all_make (λ a. nat_le (stage_of p plan site) (stage_of p plan a.site)) (accesses_all xs)
+        (each_map (Kept (NotBefore site)) (NotBefore site) (λ a k. k.0) (accesses_all xs) h)
 
     abbrev WellAll : List Stmt → Type 0
     WellAll xs = all_well p plan xs ≡ true
@@ -85,7 +94,8 @@ module _ (p : Program) (plan : Plan) where
     well_if : (site : SiteId) (cond : Expr) (a b : List Stmt) → if_rule p plan site.0 (accesses_all a ++ accesses_all b) ≡ true → WellAll a →
         WellAll b → WellAll (tree.If site cond a b ∷ [])
     well_if site cond a b rule h k = one_well _ (well_out p plan (tree.If site cond a b) ∙ ap (well_at p plan) (outs-If site cond a b)
-        ∙ and_from (if_rule p plan site.0 (accesses_all a ++ accesses_all b)) (all_well p plan a && all_well p plan b) rule (and_from (all_well p plan a) (all_well p plan b) h k))
+        ∙ and_from (if_rule p plan site.0 (accesses_all a ++ accesses_all b)) (all_well p plan a && all_well p plan b) rule
+        (and_from (all_well p plan a) (all_well p plan b) h k))
 
     well_while : (site : SiteId) (cond : Expr) (a : List Stmt) → none_earlier p plan site.0 (accesses_all a) ≡ true → WellAll a →
         WellAll (tree.While site cond a ∷ [])
@@ -100,9 +110,12 @@ module _ (p : Program) (plan : Plan) where
         none : none_earlier p plan site (accesses_in a ++ accesses_in b) ≡ true →
             none_earlier p plan site (accesses_all (project_in p plan s a) ++ accesses_all (project_in p plan s b)) ≡ true
         none e =
-            let parts = each_split (NotBefore site) (accesses_in a) (accesses_in b) (all_of (λ (i : Access). nat_le (stage_of p plan site) (stage_of p plan i.site)) (accesses_in a ++ accesses_in b) e) in
-            list_all-append (λ (i : Access). nat_le (stage_of p plan site) (stage_of p plan i.site)) (accesses_all (project_in p plan s a)) (accesses_all (project_in p plan s b))
-            ∙ and_from _ _ (still_later site (project_in p plan s a) (kept_row (NotBefore site) a one parts.0)) (still_later site (project_in p plan s b) (kept_row (NotBefore site) b two parts.1))
+            let parts = each_split (NotBefore site) (accesses_in a) (accesses_in b)
+            (all_of (λ (i : Access). nat_le (stage_of p plan site) (stage_of p plan i.site)) (accesses_in a ++ accesses_in b) e) in
+            list_all-append (λ (i : Access). nat_le (stage_of p plan site) (stage_of p plan i.site)) (accesses_all (project_in p plan s a))
+            (accesses_all (project_in p plan s b))
+            ∙ and_from _ _ (still_later site (project_in p plan s a) (kept_row (NotBefore site) a one parts.0))
+            (still_later site (project_in p plan s b) (kept_row (NotBefore site) b two parts.1))
 
         by : (t : Bool) → (t || none_earlier p plan site (accesses_in a ++ accesses_in b)) ≡ true →
             (t || none_earlier p plan site (accesses_all (project_in p plan s a) ++ accesses_all (project_in p plan s b))) ≡ true
@@ -121,11 +134,14 @@ module _ (p : Program) (plan : Plan) where
           let both = and_parts _ _ rule.1 in
           let one = kept_well_row a both.0 in
           let two = kept_well_row b both.1 in
-          by_reach s site.0 WellAll _ _ (λ low. well_if site cond (project_in p plan s a) (project_in p plan s b) (ruled site.0 a b both.0 both.1 rule.0) one two) (branch_has WellAll (assumed_in plan.assume site.0) _ _ refl one two)
+          by_reach s site.0 WellAll _ _ (λ low. well_if site cond (project_in p plan s a) (project_in p plan s b) (ruled site.0 a b both.0 both.1 rule.0) one
+          two) (branch_has WellAll (assumed_in plan.assume site.0) _ _ refl one two)
       kept_well (tree.While' site cond _ a) well =
           let rule = and_parts _ _ well in
           by_reach s site.0 WellAll _ [] (λ low. well_while site cond (project_in p plan s a)
-          (still_later site.0 (project_in p plan s a) (kept_row (NotBefore site.0) a rule.1 (all_of (λ (i : Access). nat_le (stage_of p plan site.0) (stage_of p plan i.site)) (accesses_in a) rule.0))) (kept_well_row a rule.1)) refl
+          (still_later site.0 (project_in p plan s a)
+          (kept_row (NotBefore site.0) a rule.1 (all_of (λ (i : Access). nat_le (stage_of p plan site.0) (stage_of p plan i.site)) (accesses_in a) rule.0)))
+          (kept_well_row a rule.1)) refl
       kept_well (tree.Region' r site cond _ a) well = absurd (cc)
       kept_well (tree.Call f line args) well = absurd (cc)
 
@@ -147,7 +163,8 @@ module _ (p : Program) (plan : Plan) where
         let both = and_parts (well_nested p plan x) (all_well p plan xs) well in
         let parts = each_split Q (accesses x) (accesses_all xs) h in
         subst (λ (l : List Access). Each (Kept Q) l) (sym (flat_map-append accesses (project p plan s x) (project_all p plan s xs)))
-        (each_join (Kept Q) (accesses_all (project p plan s x)) (accesses_all (project_all p plan s xs)) (kept_sites Q x both.0 parts.0) (kept_sites_all Q xs both.1 parts.1))
+        (each_join (Kept Q) (accesses_all (project p plan s x)) (accesses_all (project_all p plan s xs)) (kept_sites Q x both.0 parts.0)
+        (kept_sites_all Q xs both.1 parts.1))
 
   -- An earlier stage has the same part of a later one's text as of the whole.
   module _ (s t : ℕ) (early : s ≤ t) where
@@ -181,7 +198,9 @@ module _ (p : Program) (plan : Plan) where
           let one = twice_in a both.0 in
           let two = twice_in b both.1 in
           twice_reach site.0 _ _ _ _
-          (alone (tree.If site cond (project_in p plan t a) (project_in p plan t b)) _ (project_out p plan s (tree.If site cond (project_in p plan t a) (project_in p plan t b)) ∙ ap (project_at p plan s) (outs-If site cond (project_in p plan t a) (project_in p plan t b))
+          (alone (tree.If site cond (project_in p plan t a) (project_in p plan t b)) _
+          (project_out p plan s (tree.If site cond (project_in p plan t a) (project_in p plan t b))
+          ∙ ap (project_at p plan s) (outs-If site cond (project_in p plan t a) (project_in p plan t b))
           ∙ ap (λ (ys : List Stmt). project_if ys (project_all p plan s (project_in p plan t b))) one
           ∙ ap (λ (ys : List Stmt). project_if (project_in p plan s a) ys) two))
           (twice_branch (assumed_in plan.assume site.0) _ _ _ _ one two)
@@ -191,7 +210,8 @@ module _ (p : Program) (plan : Plan) where
       twice (tree.While' site cond _ a) well =
           let one = twice_in a (and_parts _ _ well).1 in
           twice_reach site.0 _ [] _ []
-          (alone (tree.While site cond (project_in p plan t a)) _ (project_out p plan s (tree.While site cond (project_in p plan t a)) ∙ ap (project_at p plan s) (outs-While site cond (project_in p plan t a))
+          (alone (tree.While site cond (project_in p plan t a)) _ (project_out p plan s (tree.While site cond (project_in p plan t a))
+          ∙ ap (project_at p plan s) (outs-While site cond (project_in p plan t a))
           ∙ ap (λ (ys : List Stmt). where_reached p plan s site.0 (tree.While site cond ys ∷ []) []) one)) refl
       twice (tree.Region' r site cond _ a) well = absurd (cc)
       twice (tree.Call f line args) well = absurd (cc)
@@ -230,7 +250,8 @@ module _ {p : Program} {plan : Plan} (a : Accepted p plan) where
 
   -- .. its sites are known, and of stages up to it
   pub text_sites : (s : ℕ) → 0 < s → AllKept p plan s (Sound p plan) (project_all p plan s (region_statement p plan))
-  text_sites s real = subst (λ (xs : List Stmt). AllKept p plan s (Sound p plan) xs) (sym (turn_text s real)) (kept_sites_all p plan s (Sound p plan) (turn_of a) (turn_well a) (turn_sound a))
+  text_sites s real = subst (λ (xs : List Stmt). AllKept p plan s (Sound p plan) xs) (sym (turn_text s real))
+      (kept_sites_all p plan s (Sound p plan) (turn_of a) (turn_well a) (turn_sound a))
 
   -- .. and an earlier stage has the same part of it as of the region
   pub earlier_part : (s t : ℕ) → 0 < s → s ≤ t →

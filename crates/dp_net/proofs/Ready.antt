@@ -1,10 +1,12 @@
 -- What is asked of the sites of a text, so that memories which agree give each stage the same.
-use Rattle.dp_semantics.proofs.Names.{◌≡◌, refl, sym, ◌∙◌, subst, ℕ, zero, suc, ◌<◌, Bool, true, false, List, [], ◌∷◌, ◌++◌, ℤ, list_all, Ok, Err, slice_set, get_or, list_all-append, and_parts, FaultKind, Stmt, out-Stmt, Stmt-F, Program, Plan, Evaluated, evaluated, WithLoads, Event, Effect, site_of, value_of, stored, followed, stage_of, is_checked, cell_count, last}
+use Rattle.dp_semantics.proofs.Names.{◌≡◌, refl, sym, ◌∙◌, subst, ℕ, zero, suc, ◌<◌, Bool, true, false, List, [], ◌∷◌, ◌++◌, ℤ, list_all, Ok, Err, slice_set}
+use Rattle.dp_semantics.proofs.Names.{get_or, list_all-append, and_parts, FaultKind, Stmt, out-Stmt, Stmt-F, Program, Plan, Evaluated, evaluated, WithLoads}
+use Rattle.dp_semantics.proofs.Names.{Event, Effect, site_of, value_of, stored, followed, stage_of, is_checked, cell_count, last}
 use Rattle.dp_semantics.proofs.Each.{Each, each_map}
 use Rattle.dp_semantics.proofs.Evaluation.{InVar, IsHeld, Readable, Roomy, head_loads, head_stores, evaluated_tracks}
 use Rattle.dp_semantics.proofs.Ways.{event_of}
 use Rattle.dp_semantics.proofs.Followed.{Parts, followed_has, all_joins}
-use Rattle.dp_net.specs.Quiet.{Outcome, Through, Broke, with_event, quiet_by}
+use Rattle.dp_net.specs.Quiet.{BlockOutcome, Through, Broke, with_event, quiet_by}
 unfoldable use Rattle.dp_net.specs.Quiet.{quiet_from}
 use Rattle.dp_net.specs.NetItems.{Marks}
 use Rattle.dp_net.proofs.Silent.{AllQuiet}
@@ -36,7 +38,7 @@ pub data SameEval : Evaluated Effect → Evaluated Effect → Type 0 where
   same_value : (v : WithLoads Effect) → SameEval (Ok v) (Ok v)
   same_fault : (k l : FaultKind) → SameEval (Err k) (Err l)
 
-pub data SameOutcome (m : Marks) (s : ℕ) : Outcome → Outcome → Type 0 where
+pub data SameOutcome (m : Marks) (s : ℕ) : BlockOutcome → BlockOutcome → Type 0 where
   same_through : (events : List Event) (a b : List ℤ) → Agrees m s a b → SameOutcome m s (Through events a) (Through events b)
   same_broke : SameOutcome m s Broke Broke
 
@@ -89,7 +91,7 @@ module _ (p : Program) (plan : Plan) (m : Marks) (input : List ℤ) (marked : Ma
         (λ v. outcome_same n (followed x rest (out-Stmt x) (value_of v.value)) (stored v.value a) (stored v.value b)
         (steady_next x rest (value_of v.value) h) (onward p plan s x rest (value_of v.value) q) (agree_stored m s v.value a b ab))
       where
-        more : (event : Event) (o u : Outcome) → SameOutcome m s o u → SameOutcome m s (with_event event o) (with_event event u)
+        more : (event : Event) (o u : BlockOutcome) → SameOutcome m s o u → SameOutcome m s (with_event event o) (with_event event u)
         more event o u (same_through events c d cd) = same_through (event ∷ events) c d cd
         more event o u same_broke = same_broke
 

@@ -1,5 +1,8 @@
 -- The packets of items stand for those of turns that break off where an own site goes against an assumption.
-use Rattle.dp_semantics.proofs.Names.{◌≡◌, inl, inr, refl, sym, ◌∙◌, subst, ℕ, zero, suc, ◌+◌, Bool, true, false, List, [], ◌∷◌, ◌++◌, ℤ, pos, length, length-set, map-append, list_all, list_any, Option, Some, None, Ok, Err, arith, sum_by, slice_get, cases_Bool, VarInfo, Stmt, out-Stmt, is_local_of, clear_locals, is_local_at, is_local_cell, project_all, region_statement, TurnEnd, StageKind, Par, Seq, Status, Going, Closing, Broken, Packet, Passed, passed_by, passed_on, Epoch, cleared, status_of, Void}
+use Rattle.dp_semantics.proofs.Names.{◌≡◌, inl, inr, refl, sym, ◌∙◌, subst, ℕ, zero, suc, ◌+◌, Bool, true, false, List, [], ◌∷◌, ◌++◌, ℤ, pos, length}
+use Rattle.dp_semantics.proofs.Names.{length-set, map-append, list_all, list_any, Option, Some, None, Ok, Err, arith, sum_by, slice_get, cases_Bool, VarInfo}
+use Rattle.dp_semantics.proofs.Names.{Stmt, out-Stmt, is_local_of, clear_locals, is_local_at, is_local_cell, project_all, region_statement, TurnEnd, StageKind}
+use Rattle.dp_semantics.proofs.Names.{Par, Seq, Status, Going, Closing, Broken, Packet, Passed, passed_by, passed_on, Epoch, cleared, status_of, Void}
 use Rattle.dp_net.proofs.Strict.{strict_run, strict_run_on, strict_sequential, strict_kind, strict_passed}
 use Rattle.std.proofs.lemmas.List.{ext_get_or}
 use Rattle.dp_theorem.proofs.Memory.{clear-at, clear-other}
@@ -7,7 +10,8 @@ use Rattle.dp_semantics.proofs.Each.{Each, each_join}
 use Rattle.dp_semantics.proofs.Followed.{Parts}
 use Rattle.dp_net.specs.NetItems.{Marks, weights}
 use Rattle.dp_net.specs.NetRun.{NetEnded, net_run}
-use Rattle.dp_net.specs.NetPackets.{NetStatus, NetGoing, NetClosing, NetVoid, net_status_of, NetPacket, NetPassed, net_passed, net_passed_by, net_passed_on, net_run_on, net_at_kind, net_at_sequential}
+use Rattle.dp_net.specs.NetPackets.{NetStatus, NetGoing, NetClosing, NetVoid, net_status_of, NetPacket, NetPassed, net_passed, net_passed_by, net_passed_on}
+use Rattle.dp_net.specs.NetPackets.{net_run_on, net_at_kind, net_at_sequential}
 use Rattle.dp_net.proofs.Memories.{Agrees, agrees_self}
 use Rattle.dp_net.proofs.Groups.{Group, flats, items, all_flats, all_items, sums_are, Marked, Good}
 use Rattle.dp_net.proofs.Texts.{Text}
@@ -137,7 +141,8 @@ module _ {k : Epoch} {m : Marks} {test : Stmt → Bool} (q : Quieted k m test) w
 
   kind_alike : (kind : Option StageKind) (s t : ℕ) (came : ℕ → Passed) (net_came : ℕ → NetPassed) → ((n : ℕ) → SamePassed t (came n) (net_came n)) →
       (n : ℕ) → SamePassed s (strict_kind k kind s came n) (net_at_kind m k kind s net_came n)
-  kind_alike (Some Par) s t came net_came same n = at_before s (came n).before (net_came n).before (same n).before (came n).packet (net_came n).packet (same n).packet
+  kind_alike (Some Par) s t came net_came same n =
+      at_before s (came n).before (net_came n).before (same n).before (came n).packet (net_came n).packet (same n).packet
   kind_alike (Some Seq) s t came net_came same n = sequential_alike s t came net_came same n
   kind_alike None s t came net_came same n = sequential_alike s t came net_came same n
 

@@ -1,5 +1,10 @@
 -- Quiet statements against a stage's turn and the judgement: what the stage itself makes of them, and how a later one takes their words.
-use Rattle.dp_semantics.proofs.Names.{has_cell, stores_known, list_any, ◌≡◌, refl, sym, ap, ◌∙◌, ℕ, ◌-◌, ◌==◌, Bool, true, false, not, ◌&&◌, ◌||◌, List, [], ◌∷◌, ℤ, Option, Some, None, Ok, nat_le, ltb-true, eqb-true, list_all, and_parts, and_from, Stmt, out-Stmt, roll-Stmt, roll-out-Stmt, opened_statement, rolls-Assign, rolls-Store, rolls-Print, rolls-If, rolls-While, rolls-Region, rolls-Break, rolls-Call, Stmt-F, Assign, Store, Print, If, While, Region, Break, Call, Program, Plan, Assume, evaluated, WithLoads, Effect, Stored, Printed, Decided, Tried, site_of, taken, leaves, stage_of, first_site, is_checked, goes_as, stays_late, as_assumed, went, done_word, words_of, closes_at}
+use Rattle.dp_semantics.proofs.Names.{has_cell, stores_known, list_any, ◌≡◌, refl, sym, ap, ◌∙◌, ℕ, ◌-◌, ◌==◌, Bool, true, false, not, ◌&&◌, ◌||◌, List, []}
+use Rattle.dp_semantics.proofs.Names.{◌∷◌, ℤ, Option, Some, None, Ok, nat_le, ltb-true, eqb-true, list_all, and_parts, and_from, Stmt, out-Stmt, roll-Stmt}
+use Rattle.dp_semantics.proofs.Names.{roll-out-Stmt, opened_statement, rolls-Assign, rolls-Store, rolls-Print, rolls-If, rolls-While, rolls-Region, rolls-Break}
+use Rattle.dp_semantics.proofs.Names.{rolls-Call, Stmt-F, Assign, Store, Print, If, While, Region, Break, Call, Program, Plan, Assume, evaluated, WithLoads}
+use Rattle.dp_semantics.proofs.Names.{Effect, Stored, Printed, Decided, Tried, site_of, taken, leaves, stage_of, first_site, is_checked, goes_as, stays_late}
+use Rattle.dp_semantics.proofs.Names.{as_assumed, went, done_word, words_of, closes_at}
 use Rattle.dp_tree.proofs.SitesOf.{everywhere_hidden}
 use Rattle.dp_semantics.proofs.Evaluation.{Form, head_loads, head_stores, Readable, Roomy, evaluated_tracks}
 use Rattle.dp_semantics.proofs.Each.{Each, all_of, each_map, none_of}
@@ -59,7 +64,8 @@ module _ (p : Program) (plan : Plan) (t : ℕ) where
   known_quiet_by h q parts onward tries mute =
       let both = and_parts (is_quiet_site p plan t (site_of h).0) (list_all (has_cell p) (head_loads h) && stores_known p (head_stores h)) q in
       let one = and_parts (stage_of p plan (site_of h).0 == t)
-      (not (is_checked p plan (site_of h).0) && (not ((site_of h).0 == first_site p plan) && not (list_any (is_assumed_at (site_of h).0) plan.assume))) both.0 in
+      (not (is_checked p plan (site_of h).0) && (not ((site_of h).0 == first_site p plan) && not (list_any (is_assumed_at (site_of h).0) plan.assume))) both.0
+      in
       let two = and_parts (not (is_checked p plan (site_of h).0))
       (not ((site_of h).0 == first_site p plan) && not (list_any (is_assumed_at (site_of h).0) plan.assume)) one.1 in
       let three = and_parts (not ((site_of h).0 == first_site p plan)) (not (list_any (is_assumed_at (site_of h).0) plan.assume)) two.1 in

@@ -1,5 +1,10 @@
 -- A turn over items against the one over the words that they stand for: what holds between them, and a site outside of the blocks.
-use Rattle.dp_semantics.proofs.Names.{◌≡◌, inl, inr, refl, sym, ap, ◌∙◌, subst, ℕ, ◌+◌, ◌-◌, ◌<◌, ◌≤◌, ◌==◌, Bool, true, false, ◌&&◌, ◌||◌, if◌then◌else◌, List, [], ◌∷◌, ◌++◌, ℤ, length, length-append, list_all, Option, Some, None, Ok, Err, Result, nat_le, arith, leb-true, eqb-true, slice_set, sum_by, and_parts, cases_Bool, Stmt, out-Stmt, Stmt-F, Program, Plan, Word, Load, Evaluated, evaluated, WithLoads, Effect, site_of, value_of, stored, followed, stage_of, first_site, is_checked, cell_count, load_words, done_word, words_of, word_list, Full, Void, Taken, taken_from, Turn, TurnEnd, Ended, turned, turn_by, consumed_step, closes_at}
+use Rattle.dp_semantics.proofs.Names.{◌≡◌, inl, inr, refl, sym, ap, ◌∙◌, subst, ℕ, ◌+◌, ◌-◌, ◌<◌, ◌≤◌, ◌==◌, Bool, true, false, ◌&&◌, ◌||◌, if◌then◌else◌, List}
+use Rattle.dp_semantics.proofs.Names.{[], ◌∷◌, ◌++◌, ℤ, length, length-append, list_all, Option, Some, None, Ok, Err, Result, nat_le, arith, leb-true, eqb-true}
+use Rattle.dp_semantics.proofs.Names.{slice_set, sum_by, and_parts, cases_Bool, Stmt, out-Stmt, Stmt-F, Program, Plan, Word, Load, Evaluated, evaluated}
+use Rattle.dp_semantics.proofs.Names.{WithLoads, Effect, site_of, value_of, stored, followed, stage_of, first_site, is_checked, cell_count, load_words}
+use Rattle.dp_semantics.proofs.Names.{done_word, words_of, word_list, Full, Void, Taken, taken_from, Turn, TurnEnd, Ended, turned, turn_by, consumed_step}
+use Rattle.dp_semantics.proofs.Names.{closes_at}
 use Rattle.dp_net.proofs.Strict.{strict_own_step, strict_step}
 use Rattle.std.proofs.lemmas.List.{map-set}
 use Rattle.dp_semantics.proofs.Each.{Each, each_map, each_join}
@@ -12,7 +17,8 @@ use Rattle.dp_net.specs.NetItems.{Marks, Item, Said, weights, item_list, NetTake
 use Rattle.dp_net.specs.NetRun.{NetTurn, NetEnded, net_turned, net_own_step, net_consumed_step, net_by, net_step}
 use Rattle.dp_net.proofs.Blocks.{at_turn}
 use Rattle.dp_net.proofs.Memories.{Open, Agrees, agree_stored}
-use Rattle.dp_net.proofs.Groups.{Group, One, flats, flats_join, items, items_join, weights_are, all_flats, all_items, group_list, words_of_groups, items_of_groups, Marked, Good, Alike, both, none, taken_alike}
+use Rattle.dp_net.proofs.Groups.{Group, One, flats, flats_join, items, items_join, weights_are, all_flats, all_items, group_list, words_of_groups}
+use Rattle.dp_net.proofs.Groups.{items_of_groups, Marked, Good, Alike, both, none, taken_alike}
 use Rattle.dp_net.proofs.Texts.{Plain, Text}
 use Rattle.dp_net.proofs.Ready.{Ready, each_set, each_get, SameEval, same_value, same_fault, Steady, steady_head, steady_next, eval_same}
 
@@ -26,7 +32,8 @@ module _ (p : Program) (plan : Plan) (m : Marks) (input : List ℤ) (marked : Ma
     word_turn to_do cells groups made closing = at_turn to_do cells (all_flats p plan m groups) (flats made) closing
 
     abbrev pub item_turn : List Stmt → List ℤ → List (List Group) → List Group → Bool → NetTurn
-    item_turn to_do mem groups made closing = record { to_do = to_do; cells = mem; lists = all_items p plan m groups; own = items p plan m made; closing = closing }
+    item_turn to_do mem groups made closing =
+        record { to_do = to_do; cells = mem; lists = all_items p plan m groups; own = items p plan m made; closing = closing }
 
     abbrev pub left_of : List (List Group) → ℕ
     left_of groups = sum_by length (all_flats p plan m groups)
@@ -77,7 +84,8 @@ module _ (p : Program) (plan : Plan) (m : Marks) (input : List ℤ) (marked : Ma
     items_ones [] = refl
     items_ones (w ∷ ws) = ap (λ rest. Said w ∷ rest) (items_ones ws)
 
-    module _ (x : Stmt) (rest : List Stmt) (cells mem : List ℤ) (groups : List (List Group)) (made : List Group) (closing : Bool) (held : Held (x ∷ rest) cells mem groups made) (plain : Plain m x)
+    module _ (x : Stmt) (rest : List Stmt) (cells mem : List ℤ) (groups : List (List Group)) (made : List Group) (closing : Bool)
+        (held : Held (x ∷ rest) cells mem groups made) (plain : Plain m x)
         (texts : (z : ℤ) → Text m (followed x rest (out-Stmt x) z)) (go : Turn → TurnEnd) (run : NetTurn →
         Option NetEnded) (next : Onward 1 go run groups made) where
       abbrev h : Stmt-F Stmt
@@ -102,7 +110,8 @@ module _ (p : Program) (plan : Plan) (m : Marks) (input : List ℤ) (marked : Ma
       words_good : (v : WithLoads Effect) → evaluated p input cells h ≡ Ok v → Each (Good p plan m input) (ones (words_of p plan (event_of h v)))
       words_good v e = elim (cases_Bool (is_checked p plan (site_of h).0)) [
         | inl q ↦
-            let known = each_map (λ (y : ℕ). ((0 < cell_count p (record { 0 = y })) × ((c : ℕ) → InVar p y c → Open m (stage_of p plan (site_of h).0) c)) × ((c : ℕ) → InVar p y c → (u : ℕ) → m.hides u c ≡ false)) (Readable p cells (λ (l : Load). (u : ℕ) → m.hides u l.cell ≡ false))
+            let known = each_map (λ (y : ℕ). ((0 < cell_count p (record { 0 = y })) × ((c : ℕ) → InVar p y c → Open m (stage_of p plan (site_of h).0) c))
+            × ((c : ℕ) → InVar p y c → (u : ℕ) → m.hides u c ≡ false)) (Readable p cells (λ (l : Load). (u : ℕ) → m.hides u l.cell ≡ false))
             (λ y k. (k.0.0, λ c i. k.1 c i)) (head_loads h) (Rattle.dp_semantics.proofs.Each.each_both _ _ (head_loads h) r.reads (r.told q)) in
             let t = evaluated_tracks p input cells cells (λ (l : Load). (u : ℕ) → m.hides u l.cell ≡ false) h r.room known v e in
             rw (q, ones_join (load_words (site_of h).0 v.loads) (done_word (site_of h).0 v.value ∷ []))
@@ -151,14 +160,25 @@ module _ (p : Program) (plan : Plan) (m : Marks) (input : List ℤ) (marked : Ma
                 made_good = each_join (Good p plan m input) made (ones ws) held.made_good (words_good v e);
                 fits = subst (λ (all : List Word). length all ≤ plan.words) (sym flats_then) fits;
               } in
-              let paid : 1 + length (flats made) + left_of groups ≤ length (flats (made ++ ones ws)) + left_of groups = let a = ap length flats_then in let b = length-append (flats made) ws in let c = some_word p plan (event_of h v) in omega (arith, a, b, c) in
-              subst (λ (all : List Word). SameEnd (go (at_turn (followed x rest h (value_of v.value)) (stored v.value cells) (all_flats p plan m groups) all closing_then)) (run then_items)) flats_then
-              (subst (λ (all : List Item). SameEnd (go (word_turn (followed x rest h (value_of v.value)) (stored v.value cells) groups (made ++ ones ws) closing_then)) (run (record { to_do = followed x rest h (value_of v.value); cells = stored v.value mem; lists = all_items p plan m groups; own = all; closing = closing_then }))) items_then
+              let paid : 1 + length (flats made) + left_of groups ≤ length (flats (made ++ ones ws)) + left_of groups = let a = ap length flats_then in
+              let b = length-append (flats made) ws in let c = some_word p plan (event_of h v) in omega (arith, a, b, c) in
+              subst (λ (all : List Word). SameEnd (go (at_turn (followed x rest h (value_of v.value)) (stored v.value cells) (all_flats p plan m groups) all
+              closing_then)) (run then_items)) flats_then
+              (subst (λ (all : List Item). SameEnd
+              (go (word_turn (followed x rest h (value_of v.value)) (stored v.value cells) groups (made ++ ones ws) closing_then))
+              (run (record {
+                to_do = followed x rest h (value_of v.value);
+                cells = stored v.value mem;
+                lists = all_items p plan m groups;
+                own = all;
+                closing = closing_then;
+              }))) items_then
               (next (followed x rest h (value_of v.value)) (stored v.value cells) (stored v.value mem) groups (made ++ ones ws) closing_then held_then paid))
 
           by : (a b : Bool) → (assumed && nat_le (length (flats made ++ ws)) plan.words) ≡ a → a ≡ b →
               SameEnd (turn_by go (if a then Ok then_words else Err Full)) (net_by p plan m input s run (if b then Some then_items else None))
-          by true true q same = goes_on (leb-true (length (flats made ++ ws)) plan.words (and_parts assumed (nat_le (length (flats made ++ ws)) plan.words) q).1)
+          by true true q same =
+              goes_on (leb-true (length (flats made ++ ws)) plan.words (and_parts assumed (nat_le (length (flats made ++ ws)) plan.words) q).1)
           by false false q same = tt
           by true false q same = absurd (cc same)
           by false true q same = absurd (cc same)
@@ -200,15 +220,27 @@ module _ (p : Program) (plan : Plan) (m : Marks) (input : List ℤ) (marked : Ma
           let paid : 1 + length (flats made) + left_of (slice_set groups (t - 1) gs) ≤ length (flats made) + left_of groups = omega (arith, fewer, same) in
           let closing_then : Bool = closing || closes_at (first_site p plan) (site_of h).0 effect in
           subst (λ (ls : List (List Word)). SameEnd (go (at_turn (followed x rest h (value_of effect)) (stored effect cells) ls (flats made) closing_then))
-          (run (record { to_do = followed x rest h (value_of effect); cells = stored effect mem; lists = slice_set (all_items p plan m groups) (t - 1) (items p plan m gs); own = items p plan m made; closing = closing_then }))) (sym sets)
-          (subst (λ (ls : List (List Item)). SameEnd (go (word_turn (followed x rest h (value_of effect)) (stored effect cells) (slice_set groups (t - 1) gs) made closing_then)) (run (record { to_do = followed x rest h (value_of effect); cells = stored effect mem; lists = ls; own = items p plan m made; closing = closing_then }))) (sym net_sets)
+          (run (record {
+            to_do = followed x rest h (value_of effect);
+            cells = stored effect mem;
+            lists = slice_set (all_items p plan m groups) (t - 1) (items p
+                plan m gs);
+            own = items p plan m made;
+            closing = closing_then;
+          }))) (sym sets)
+          (subst (λ (ls : List (List Item)). SameEnd (go (word_turn (followed x rest h (value_of effect)) (stored effect cells) (slice_set groups (t - 1) gs)
+          made closing_then)) (run
+          (record { to_do = followed x rest h (value_of effect); cells = stored effect mem; lists = ls; own = items p plan m made; closing = closing_then })))
+          (sym net_sets)
           (next (followed x rest h (value_of effect)) (stored effect cells) (stored effect mem) (slice_set groups (t - 1) gs) made closing_then held_then paid))
 
       -- one step at a site outside of the blocks
       pub site_case : SameEnd (turn_by go (strict_step p plan input s (word_turn (x ∷ rest) cells groups made closing) x rest h))
           (net_by p plan m input s run (net_step p plan m input s (item_turn (x ∷ rest) mem groups made closing) x rest))
       site_case = elim (cases_Bool (t == s)) [
-        | inl q ↦ rw (plain.0, q) (own_case (evaluated p input cells h) (evaluated p input mem h) (eval_same p plan m input marked test ready s h r (eqb-true t s q) cells mem held.agrees) refl)
-        | inr q ↦ rw (plain.0, q) (taken_case (taken_from p h (word_list (all_flats p plan m groups) t)) (net_taken_from p h (item_list (all_items p plan m groups) t))
+        | inl q ↦ rw (plain.0, q) (own_case (evaluated p input cells h) (evaluated p input mem h) (eval_same p plan m input marked test ready s h r
+            (eqb-true t s q) cells mem held.agrees) refl)
+        | inr q ↦ rw (plain.0, q) (taken_case (taken_from p h (word_list (all_flats p plan m groups) t))
+            (net_taken_from p h (item_list (all_items p plan m groups) t))
             (rw (words_there, items_there) (taken_alike p plan m input marked h plain.1 (group_list p plan m groups t) there_good)) refl)
       ]

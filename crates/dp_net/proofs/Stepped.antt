@@ -1,5 +1,11 @@
 -- One step at a statement of the source's text: of a stage's turn, of the one that breaks off where it goes against an assumption, and of the judgement.
-use Rattle.dp_semantics.proofs.Names.{◌≡◌, inl, inr, refl, sym, ap, ◌∙◌, subst, ℕ, suc, ◌+◌, ◌-◌, ◌≤◌, Bool, true, false, ◌&&◌, ◌||◌, if◌then◌else◌, List, [], ◌∷◌, ◌++◌, ℤ, length, Option, Some, None, Ok, Err, Result, nat_le, nat_lt, leb-true, ltb-true, eq-eqb, ne_eqb, slice_set, and_parts, cases_Bool, FaultKind, SiteId, Stmt, out-Stmt, roll-Stmt, out-roll-Stmt, Stmt-F, Assign, Store, Print, If, While, Region, Break, Call, Program, Plan, Word, evaluated, WithLoads, Effect, Stored, Printed, Decided, Tried, site_of, value_of, stored, followed, project, stage_of, first_site, as_assumed, closes_at, effect_by, is_done_of, after_loads_of, words_of, word_list, first_cell, cell_count, Full, Void, Taken, taken_from, Turn, TurnEnd, turned, turn_by, turn_step, own_step, consumed_step, Judging, Agreed, Clean, Unclean, judged, judge_step, judge_by, loads_hold, last, project_all}
+use Rattle.dp_semantics.proofs.Names.{◌≡◌, inl, inr, refl, sym, ap, ◌∙◌, subst, ℕ, suc, ◌+◌, ◌-◌, ◌≤◌, Bool, true, false, ◌&&◌, ◌||◌, if◌then◌else◌, List, []}
+use Rattle.dp_semantics.proofs.Names.{◌∷◌, ◌++◌, ℤ, length, Option, Some, None, Ok, Err, Result, nat_le, nat_lt, leb-true, ltb-true, eq-eqb, ne_eqb, slice_set}
+use Rattle.dp_semantics.proofs.Names.{and_parts, cases_Bool, FaultKind, SiteId, Stmt, out-Stmt, roll-Stmt, out-roll-Stmt, Stmt-F, Assign, Store, Print, If}
+use Rattle.dp_semantics.proofs.Names.{While, Region, Break, Call, Program, Plan, Word, evaluated, WithLoads, Effect, Stored, Printed, Decided, Tried, site_of}
+use Rattle.dp_semantics.proofs.Names.{value_of, stored, followed, project, stage_of, first_site, as_assumed, closes_at, effect_by, is_done_of, after_loads_of}
+use Rattle.dp_semantics.proofs.Names.{words_of, word_list, first_cell, cell_count, Full, Void, Taken, taken_from, Turn, TurnEnd, turn_by, turn_step, own_step}
+use Rattle.dp_semantics.proofs.Names.{consumed_step, Judging, Agreed, Clean, Unclean, judged, judge_step, judge_by, loads_hold, last, project_all}
 unfoldable use Rattle.dp_semantics.proofs.Names.{turn_from, judge_from}
 use Rattle.dp_semantics.specs.Words.{Astray, is_cell_of, done_from, taken_by}
 use Rattle.dp_semantics.specs.Judge.{judged_by}
@@ -101,10 +107,6 @@ module _ (p : Program) (plan : Plan) where
         abbrev opened : Turn
         opened = at_turn (y ∷ onward) cells lists own closing
 
-        turned_is : (effect : Effect) (own' : List Word) (lists' : List (List Word)) →
-            turned p plan opened y onward hs effect own' lists' ≡ turn_after effect own' lists'
-        turned_is effect own' lists' = rw (next_is (value_of effect), site_proj p plan s h)
-
         turn_opened : (n : ℕ) → turn_from p plan input s (suc n) stage_turn ≡ turn_by (turn_from p plan input s n) (turn_step p plan input s opened y onward hs)
         unfolding turn_from
         turn_opened n = rw text_is (ap (λ (g : Stmt-F Stmt). turn_by (turn_from p plan input s n) (turn_step p plan input s opened y onward g))
@@ -154,7 +156,8 @@ module _ (p : Program) (plan : Plan) where
           when_fits go false c = refl
 
           pub turn_makes : (v : WithLoads Effect) → evaluated p input cells h ≡ Ok v → (n : ℕ) → turn_from p plan input s (suc n) stage_turn
-              ≡ (if nat_le (length (own ++ words_here v)) plan.words then turn_from p plan input s n (turn_after v.value (own ++ words_here v) lists) else Err Full)
+              ≡ (if nat_le (length (own ++ words_here v)) plan.words then turn_from p plan input s n
+              (turn_after v.value (own ++ words_here v) lists) else Err Full)
           turn_makes v e n =
               turn_opened n
               ∙ ap (turn_by (turn_from p plan input s n)) (own_is ∙ ap (own_step p plan opened y onward hs) e
@@ -162,7 +165,8 @@ module _ (p : Program) (plan : Plan) where
               ∙ when_fits (turn_from p plan input s n) (nat_le (length (own ++ words_here v)) plan.words) (turn_after v.value (own ++ words_here v) lists)
 
           pub strict_makes : (v : WithLoads Effect) → evaluated p input cells h ≡ Ok v → (n : ℕ) → strict_from p plan input s (suc n) stage_turn
-              ≡ (if as_assumed p plan (site_of h).0 v.value && nat_le (length (own ++ words_here v)) plan.words then strict_from p plan input s n (turn_after v.value (own ++ words_here v) lists) else Err Full)
+              ≡ (if as_assumed p plan (site_of h).0 v.value && nat_le (length (own ++ words_here v)) plan.words then strict_from p plan input s n
+              (turn_after v.value (own ++ words_here v) lists) else Err Full)
           strict_makes v e n =
               strict_opened n
               ∙ ap (turn_by (strict_from p plan input s n)) (strict_own_is ∙ ap (strict_own_step p plan opened y onward hs) e
@@ -177,7 +181,8 @@ module _ (p : Program) (plan : Plan) where
           pub assumed : as_assumed p plan (site_of h).0 taken.effect ≡ true
           pub effects : List Effect
           pub sites : List ℕ
-          pub goes_on : judge_from p plan n (record { turn = turn_after taken.effect own (slice_set lists (u - 1) taken.rest); effects = effects; sites = sites }) ≡ Clean v
+          pub goes_on : judge_from p plan n
+              (record { turn = turn_after taken.effect own (slice_set lists (u - 1) taken.rest); effects = effects; sites = sites }) ≡ Clean v
 
         module _ (at_end : s ≡ last plan) (effects : List Effect) (sites : List ℕ) where
           abbrev judging : Judging
@@ -194,7 +199,8 @@ module _ (p : Program) (plan : Plan) where
           unfolding judge_from
           judge_stops v e = let clash : Unclean ≡ Clean v = rw text_is at e in absurd (cc clash)
 
-          judge_step_is : judge_step p plan judging_here y onward hs ≡ judged_by p plan judging_here y onward hs (loads_hold (site_of h).0 cells (word_list lists u)) (taken_from p h (word_list lists u))
+          judge_step_is : judge_step p plan judging_here y onward hs ≡ judged_by p plan judging_here y onward hs
+              (loads_hold (site_of h).0 cells (word_list lists u)) (taken_from p h (word_list lists u))
           judge_step_is = rw (taken_proj s h (word_list lists (stage_of p plan (site_of hs).0)), site_proj p plan s h) refl
 
           pub judged_on : (n : ℕ) (v : Agreed) → judge_from p plan (suc n) judging ≡ Clean v → JudgedOn n v
@@ -206,7 +212,12 @@ module _ (p : Program) (plan : Plan) where
               by (Err why) q held e = absurd (cc e)
               by (Ok w) q held e = by_test (held && as_assumed p plan (site_of hs).0 w.effect) refl e
                 where
-                  judged_is : judged p plan judging_here y onward hs w ≡ record { turn = turn_after w.effect own (slice_set lists (u - 1) w.rest); effects = effects ++ w.effect ∷ []; sites = sites ++ (site_of h).0 ∷ [] }
+                  judged_is : judged p plan judging_here y onward hs w
+                      ≡ record {
+                        turn = turn_after w.effect own (slice_set lists (u - 1) w.rest);
+                        effects = effects ++ w.effect ∷ [];
+                        sites = sites ++ (site_of h).0 ∷ [];
+                      }
                   judged_is = rw (site_proj p plan s h) (rw (next_is (value_of w.effect)) refl)
 
                   by_test : (b : Bool) → (held && as_assumed p plan (site_of hs).0 w.effect) ≡ b →

@@ -1,5 +1,6 @@
 -- Net stores are stores.
-use Rattle.dp_semantics.proofs.Names.{◌≡◌, refl, ℕ, Bool, true, false, if◌then◌else◌, List, [], ◌∷◌, ℤ, inl, inr, and_from, and_parts, cases_Bool, list_all, Effect, Stored, Printed, Decided, Tried}
+use Rattle.dp_semantics.proofs.Names.{◌≡◌, refl, ℕ, Bool, true, false, if◌then◌else◌, List, [], ◌∷◌, ℤ, inl, inr, and_from, and_parts, cases_Bool, list_all}
+use Rattle.dp_semantics.proofs.Names.{Effect, Stored, Printed, Decided, Tried}
 use Rattle.dp_net.specs.NetItems.{is_store, stores_into, put, told_after, net_behind, net_of}
 
 abbrev AllStores : List Effect → Type 0

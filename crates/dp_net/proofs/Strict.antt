@@ -1,5 +1,8 @@
 -- The definition's turn, but that it breaks off where an own site goes against an assumption; and the packets of such turns.
-use Rattle.dp_semantics.proofs.Names.{ℕ, zero, suc, ◌+◌, ◌==◌, ◌&&◌, if◌then◌else◌, List, [], ◌∷◌, ◌++◌, ℤ, length, Option, Some, Ok, Err, Result, nat_le, slice_get, sum_by, Stmt, out-Stmt, Stmt-F, Program, Plan, Evaluated, evaluated, Event, Effect, site_of, event_as_assumed, words_of, Full, Void, taken_from, Turn, TurnEnd, turned, turn_by, consumed_step, stage_at, words_left, turn_begin, StageKind, Par, Packet, Passed, passed_on, Epoch, cleared}
+use Rattle.dp_semantics.proofs.Names.{ℕ, zero, suc, ◌+◌, ◌==◌, ◌&&◌, if◌then◌else◌, List, [], ◌∷◌, ◌++◌, ℤ, length, Option, Some, Ok, Err, Result, nat_le}
+use Rattle.dp_semantics.proofs.Names.{slice_get, sum_by, Stmt, out-Stmt, Stmt-F, Program, Plan, Evaluated, evaluated, Event, Effect, site_of, event_as_assumed}
+use Rattle.dp_semantics.proofs.Names.{words_of, Full, Void, taken_from, Turn, TurnEnd, turned, turn_by, consumed_step, stage_at, words_left, turn_begin}
+use Rattle.dp_semantics.proofs.Names.{StageKind, Par, Packet, Passed, passed_on, Epoch, cleared}
 use Rattle.dp_semantics.specs.Packets.{fresh}
 use Rattle.dp_tree.specs.Step.{line_of}
 use Rattle.dp_semantics.specs.Words.{Faults}

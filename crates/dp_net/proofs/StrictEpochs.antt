@@ -1,5 +1,7 @@
 -- Behind clean judgements the packets of turns that break off at a wrong assumption are the definition's, and so is the next judgement.
-use Rattle.dp_semantics.proofs.Names.{◌≡◌, ◌⊎◌, inl, inr, refl, sym, ap, ◌∙◌, subst, ℕ, zero, suc, ◌-◌, ◌<◌, ◌≤◌, true, false, List, ℤ, length, Option, Some, None, arith, slice_get, cases_eq, TurnEnd, stage_run, StageKind, Par, Seq, Status, Going, Closing, Broken, Packet, Passed, passed, passed_by, passed_on, run_on, at_kind, at_sequential, Epoch, cleared, Judgement, Agreed, Clean, Unclean, judge}
+use Rattle.dp_semantics.proofs.Names.{◌≡◌, ◌⊎◌, inl, inr, refl, sym, ap, ◌∙◌, subst, ℕ, zero, suc, ◌-◌, ◌<◌, ◌≤◌, true, false, List, ℤ, length, Option, Some}
+use Rattle.dp_semantics.proofs.Names.{None, arith, slice_get, cases_eq, TurnEnd, stage_run, StageKind, Par, Seq, Status, Going, Closing, Broken, Packet, Passed}
+use Rattle.dp_semantics.proofs.Names.{passed, passed_by, passed_on, run_on, at_kind, at_sequential, Epoch, cleared, Judgement, Agreed, Clean, Unclean, judge}
 use Rattle.dp_semantics.specs.EpochKey.{EpochKey, epoch_of}
 use Rattle.dp_semantics.specs.EpochVerdicts.{JudgeState, verdict_at, verdict_by, goes_on, state_at, judgement_of}
 use Rattle.dp_semantics.proofs.PacketFacts.{live}

@@ -1,5 +1,8 @@
 -- A turn that breaks off at a wrong assumption goes on as the other, or breaks off.
-use Rattle.dp_semantics.proofs.Names.{◌≡◌, ◌⊎◌, inl, inr, refl, ℕ, zero, suc, ◌==◌, Bool, true, false, ◌&&◌, if◌then◌else◌, List, [], ◌∷◌, ◌++◌, ℤ, length, Ok, Err, Result, nat_le, Stmt, out-Stmt, Stmt-F, Program, Plan, Evaluated, evaluated, Event, Effect, event_as_assumed, words_of, Full, Void, Taken, taken_from, Turn, TurnEnd, turned, turn_by, turn_at, own_step, consumed_step, stage_at, words_left}
+use Rattle.dp_semantics.proofs.Names.{◌≡◌, ◌⊎◌, inl, inr, refl, ℕ, zero, suc, ◌==◌, Bool, true, false, ◌&&◌, if◌then◌else◌, List, [], ◌∷◌, ◌++◌, ℤ, length, Ok}
+use Rattle.dp_semantics.proofs.Names.{Err, Result, nat_le, Stmt, out-Stmt, Stmt-F, Program, Plan, Evaluated, evaluated, Event, Effect, event_as_assumed}
+use Rattle.dp_semantics.proofs.Names.{words_of, Full, Void, Taken, taken_from, Turn, TurnEnd, turned, turn_by, turn_at, own_step, consumed_step, stage_at}
+use Rattle.dp_semantics.proofs.Names.{words_left}
 unfoldable use Rattle.dp_semantics.proofs.Names.{turn_from}
 use Rattle.dp_net.proofs.Strict.{strict_own_step, strict_at}
 unfoldable use Rattle.dp_net.proofs.Strict.{strict_from}
@@ -22,8 +25,10 @@ module _ (p : Program) (plan : Plan) (input : List ℤ) (s : ℕ) where
           h = out-Stmt x
 
           fits : (event : Event) (a b : Bool) → SameOrOff
-              (turn_by (strict_from p plan input s n) (if a && b then Ok (turned p plan c x rest (out-Stmt x) event.effect (c.own ++ words_of p plan event) c.lists) else Err Full))
-              (turn_by (turn_from p plan input s n) (if b then Ok (turned p plan c x rest (out-Stmt x) event.effect (c.own ++ words_of p plan event) c.lists) else Err Full))
+              (turn_by (strict_from p plan input s n)
+              (if a && b then Ok (turned p plan c x rest (out-Stmt x) event.effect (c.own ++ words_of p plan event) c.lists) else Err Full))
+              (turn_by (turn_from p plan input s n)
+              (if b then Ok (turned p plan c x rest (out-Stmt x) event.effect (c.own ++ words_of p plan event) c.lists) else Err Full))
           fits event true true = go (turned p plan c x rest (out-Stmt x) event.effect (c.own ++ words_of p plan event) c.lists)
           fits event true false = inl refl
           fits event false b = inr (Full, refl)

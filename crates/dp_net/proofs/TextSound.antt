@@ -1,5 +1,7 @@
 -- The text of each stage is sound where the region's sites are.
-use Rattle.dp_semantics.proofs.Names.{◌≡◌, refl, sym, ap, ◌∙◌, ℕ, Bool, true, false, ◌&&◌, if◌then◌else◌, List, [], list_all, list_all-append, Option, Some, None, nat_le, and_from, Stmt, Row_of-Stmt, end_of-Stmt, more_of-Stmt, rolls-If, rolls-While, If, While, Program, Plan, stage_of, Access, accesses, accesses_in, assumed_in, branch_of, where_reached, project, project_in}
+use Rattle.dp_semantics.proofs.Names.{◌≡◌, refl, sym, ap, ◌∙◌, ℕ, Bool, true, false, if◌then◌else◌, List, [], list_all, list_all-append, Option, Some, None}
+use Rattle.dp_semantics.proofs.Names.{nat_le, and_from, Stmt, Row_of-Stmt, end_of-Stmt, more_of-Stmt, rolls-If, rolls-While, If, While, Program, Plan, stage_of}
+use Rattle.dp_semantics.proofs.Names.{Access, accesses, accesses_in, assumed_in, branch_of, where_reached, project, project_in}
 use Rattle.dp_tree.specs.declared.Stmt.TheVariants as tree
 use Rattle.dp_semantics.proofs.Each.{Each, each_split}
 use Rattle.dp_semantics.proofs.Setting.{head_access}
@@ -22,9 +24,6 @@ module _ (p : Program) (plan : Plan) where
     branch_sound (Some true) a b h k = h
     branch_sound (Some false) a b h k = k
 
-    one_sound : (b : Bool) → b ≡ true → (b && true) ≡ true
-    one_sound b e = rw e refl
-
     if_sound : (site : _) (cond : _) (a b : List Stmt) → is_sound p plan (head_access (If site cond a b)) ≡ true →
         list_all (all_sound p plan) a ≡ true → list_all (all_sound p plan) b ≡ true → all_sound p plan (tree.If site cond a b) ≡ true
     if_sound site cond a b own h k = ap (all_sound p plan) (sym (rolls-If site cond a b)) ∙ sound_roll p plan (If site cond a b) ∙ rw (own, h, k) refl
@@ -45,7 +44,8 @@ module _ (p : Program) (plan : Plan) where
           let two = projected_row b parts.1 in
           reach_sound site.0 _ _ (rw (if_sound site cond (project_in p plan s a) (project_in p plan s b) h.0 one two) refl)
           (branch_sound (assumed_in plan.assume site.0) _ _ one two)
-      projected_sound (tree.While' site cond _ a) h = reach_sound site.0 _ [] (rw (while_sound site cond (project_in p plan s a) h.0 (projected_row a h.1)) refl) refl
+      projected_sound (tree.While' site cond _ a) h =
+          reach_sound site.0 _ [] (rw (while_sound site cond (project_in p plan s a) h.0 (projected_row a h.1)) refl) refl
       projected_sound (tree.Region' r site cond _ a) h = rw (if_sound site cond (project_in p plan s a) [] h.0 (projected_row a h.1) refl) refl
       projected_sound (tree.Call f line args) h = refl
 

@@ -1,5 +1,7 @@
 -- The text of a stage with its blocks, and what follows a head that isn't of a block.
-use Rattle.dp_semantics.proofs.Names.{◌≡◌, refl, sym, ap, ◌∙◌, subst, append_assoc, ℕ, Bool, true, false, if◌then◌else◌, List, [], ◌∷◌, ◌++◌, ℤ, Option, None, is_zero, and_parts, Expr, SiteId, Stmt, out-Stmt, Stmt-F, Assign, Store, Print, If, While, Region, Break, Program, Plan, site_of, followed, choose, behind_region, behind_one, region_number, stage_of}
+use Rattle.dp_semantics.proofs.Names.{◌≡◌, refl, sym, ap, ◌∙◌, subst, append_assoc, ℕ, Bool, true, false, if◌then◌else◌, List, [], ◌∷◌, ◌++◌, ℤ, Option, None}
+use Rattle.dp_semantics.proofs.Names.{is_zero, and_parts, Expr, SiteId, Stmt, out-Stmt, Stmt-F, Assign, Store, Print, If, While, Region, Break, Program, Plan}
+use Rattle.dp_semantics.proofs.Names.{site_of, followed, choose, behind_region, behind_one, region_number, stage_of}
 use Rattle.dp_net.specs.Quiet.{is_quiet}
 use Rattle.dp_net.specs.NetItems.{begins, Marks}
 use Rattle.dp_net.proofs.Silent.{all_quiet, AllQuiet, quiet_head, quiet_out}

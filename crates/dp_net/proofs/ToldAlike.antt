@@ -1,5 +1,7 @@
 -- What a judgement tells of a block by its net stores is what it tells by its words: the same prints, steps and last values, to each stage that sees them.
-use Rattle.dp_semantics.proofs.Names.{◌≡◌, inl, inr, refl, sym, ap, ◌∙◌, ℕ, suc, ◌+◌, Bool, true, false, if◌then◌else◌, List, [], ◌∷◌, ◌++◌, ℤ, length, length-append, filter_map, Option, Some, None, nat_le, arith, cases_Bool, Program, Plan, Event, Effect, Stored, Printed, Decided, Tried, stage_of, last, Judgement, Agreed, Clean, Unclean}
+use Rattle.dp_semantics.proofs.Names.{◌≡◌, inl, inr, refl, sym, ap, ◌∙◌, ℕ, suc, ◌+◌, Bool, true, false, if◌then◌else◌, List, [], ◌∷◌, ◌++◌, ℤ, length}
+use Rattle.dp_semantics.proofs.Names.{length-append, filter_map, Option, Some, None, nat_le, arith, cases_Bool, Program, Plan, Event, Effect, Stored, Printed}
+use Rattle.dp_semantics.proofs.Names.{Decided, Tried, stage_of, last, Judgement, Agreed, Clean, Unclean}
 use Rattle.dp_tree.specs.Trace.{printed_by}
 use Rattle.std.specs.Option.{option_or}
 use Rattle.std.specs.List.{cons_option}
@@ -12,7 +14,8 @@ use Rattle.dp_net.proofs.Memories.{Open, stored_at, last_of, net_last}
 
 -- the effects that stage s or an earlier one made, and so stage s sees
 abbrev pub seen_by : Program → Plan → ℕ → List ℕ → List Effect → List Effect
-seen_by p plan s (site ∷ sites) (effect ∷ effects) = if nat_le (stage_of p plan site) s then effect ∷ seen_by p plan s sites effects else seen_by p plan s sites effects
+seen_by p plan s (site ∷ sites) (effect ∷ effects) =
+    if nat_le (stage_of p plan site) s then effect ∷ seen_by p plan s sites effects else seen_by p plan s sites effects
 seen_by p plan s _ _ = []
 
 option_assoc : {X : Type 0} (a b c : Option X) → option_or (option_or a b) c ≡ option_or a (option_or b c)
@@ -56,7 +59,8 @@ module _ (p : Program) (plan : Plan) where
   seen_block s t (event ∷ events) h = rw (h.0.0, seen_block s t events h.1) (by (nat_le t s))
     where
       by : (b : Bool) →
-          (if b then event.effect ∷ (if b then effects_of events else []) else (if b then effects_of events else [])) ≡ (if b then event.effect ∷ effects_of events else [])
+          (if b then event.effect ∷ (if b then effects_of events else []) else (if b then effects_of events else [])) ≡ (if b then event.effect
+          ∷ effects_of events else [])
       by true = refl
       by false = refl
 
@@ -115,7 +119,8 @@ no_prints p plan t [] h = refl
 no_prints p plan t (event ∷ events) h = rw (h.0.1) (no_prints p plan t events h.1)
 
 -- What both judgements tell: the same prints and number of steps, and the same last value of each cell that isn't hidden, to each stage that sees it.
-pub record Told (p : Program) (plan : Plan) (m : Marks) (sites : List ℕ) (effects : List Effect) (net_sites : List ℕ) (net_effects : List Effect) (steps : ℕ) : Type 0 where
+pub record Told (p : Program) (plan : Plan) (m : Marks) (sites : List ℕ) (effects : List Effect) (net_sites : List ℕ) (net_effects : List Effect)
+    (steps : ℕ) : Type 0 where
   pub steps_are : length effects ≡ steps
   pub prints : filter_map printed_by effects ≡ filter_map printed_by net_effects
   pub lasts : (c : ℕ) → Open m (last plan) c → last_of c effects ≡ last_of c net_effects

@@ -1,6 +1,10 @@
 -- Where the judgement is clean, no stage has gone against an assumption: the turns that break off there come to the same ends,
 -- and the judgement leaves the region where one of them does.
-use Rattle.dp_semantics.proofs.Names.{◌≡◌, inl, inr, refl, sym, ap, ◌∙◌, subst, append_assoc, append_cancel_left, ℕ, zero, suc, ◌-◌, ◌<◌, ◌≤◌, Bool, true, false, ◌||◌, if◌then◌else◌, List, [], ◌∷◌, ◌++◌, ℤ, length, length-set, Ok, Err, nat_le, arith, slice_set, and_parts, cases_eq, cases_order, Stmt, out-Stmt, Stmt-F, Program, Plan, Word, Evaluated, evaluated, WithLoads, Effect, site_of, value_of, stored, followed, stage_of, first_site, as_assumed, closes_at, words_of, word_list, Full, Taken, taken_from, Turn, Ended, Judging, Agreed, Clean, last, project_all, Access, accesses, well_nested}
+use Rattle.dp_semantics.proofs.Names.{◌≡◌, inl, inr, refl, sym, ap, ◌∙◌, subst, append_assoc, append_cancel_left, ℕ, zero, suc, ◌-◌, ◌<◌, ◌≤◌, Bool, true}
+use Rattle.dp_semantics.proofs.Names.{false, ◌||◌, if◌then◌else◌, List, [], ◌∷◌, ◌++◌, ℤ, length, length-set, Ok, Err, nat_le, arith, slice_set, and_parts}
+use Rattle.dp_semantics.proofs.Names.{cases_eq, cases_order, Stmt, out-Stmt, Stmt-F, Program, Plan, Word, Evaluated, evaluated, WithLoads, Effect, site_of}
+use Rattle.dp_semantics.proofs.Names.{value_of, stored, followed, stage_of, first_site, as_assumed, closes_at, words_of, word_list, Full, Taken, taken_from}
+use Rattle.dp_semantics.proofs.Names.{Turn, Ended, Judging, Agreed, Clean, last, project_all, Access, accesses, well_nested}
 unfoldable use Rattle.dp_semantics.proofs.Names.{turn_from, judge_from}
 use Rattle.dp_semantics.proofs.Each.{Each, each_map, each_split}
 use Rattle.dp_semantics.proofs.Evaluation.{Form, head_loads, Readable, evaluated_tracks}
@@ -50,15 +54,18 @@ module _ (p : Program) (plan : Plan) (input : List ℤ) (s : ℕ) (low : 0 < s) 
 
     source_onward : (z : ℤ) → Sourced (followed x rest (out-Stmt x) z)
     source_onward z = record {
-      well = followed_has (λ (xs : List Stmt). all_well p plan xs ≡ true) (all_joins (well_nested p plan)) x rest (out-Stmt x) z source.well head_parts.1 (well_parts p plan (out-Stmt x) head_well);
-      sound = followed_has (λ (xs : List Stmt). Each (Sound p plan) (accesses_all xs)) (each_joins (Sound p plan)) x rest (out-Stmt x) z source.sound head_sites.1 (each_parts (Sound p plan) (out-Stmt x) head_sites.0);
+      well = followed_has (λ (xs : List Stmt). all_well p plan xs ≡ true) (all_joins (well_nested p plan)) x rest (out-Stmt x) z source.well head_parts.1
+          (well_parts p plan (out-Stmt x) head_well);
+      sound = followed_has (λ (xs : List Stmt). Each (Sound p plan) (accesses_all xs)) (each_joins (Sound p plan)) x rest (out-Stmt x) z source.sound
+          head_sites.1 (each_parts (Sound p plan) (out-Stmt x) head_sites.0);
     }
 
   abbrev turn_at_text : List Stmt → List ℤ → List (List Word) → List Word → Bool → Turn
   turn_at_text xs cells lists own closing = at_turn (project_all p plan s xs) cells lists own closing
 
   abbrev judging_at_text : List Stmt → List ℤ → List (List Word) → List Word → Bool → List Effect → List ℕ → Judging
-  judging_at_text xs cells lists own closing effects sites = record { turn = at_turn (project_all p plan (last plan) xs) cells lists own closing; effects = effects; sites = sites }
+  judging_at_text xs cells lists own closing effects sites =
+      record { turn = at_turn (project_all p plan (last plan) xs) cells lists own closing; effects = effects; sites = sites }
 
   -- the turn that breaks off comes to this end, and where it leaves the region the judgement does
   abbrev pub EndsSo : ℕ → Turn → Ended → Agreed → Type 0
@@ -75,13 +82,16 @@ module _ (p : Program) (plan : Plan) (input : List ℤ) (s : ℕ) (low : 0 < s) 
   -- with so many steps of the judgement
   abbrev KeptIn : ℕ → Type 0
   KeptIn n = (k : ℕ) (xs : List Stmt) → Sourced xs →
-      (cells : List ℤ) (lists : List (List Word)) (own : List Word) (closing : Bool) (mem : List ℤ) (judged : List (List Word)) (judge_own : List Word) (judge_closing : Bool) (effects : List Effect) (sites : List ℕ)
+      (cells : List ℤ) (lists : List (List Word)) (own : List Word) (closing : Bool) (mem : List ℤ) (judged : List (List Word)) (judge_own : List Word)
+      (judge_closing : Bool) (effects : List Effect) (sites : List ℕ)
       (e : Ended) (v : Agreed) → Facing lists judged own e.own → turn_from p plan input s k (turn_at_text xs cells lists own closing) ≡ Ok e →
       (closing ≡ true → judge_closing ≡ true) → judge_from p plan n (judging_at_text xs mem judged judge_own judge_closing effects sites) ≡ Clean v →
       EndsSo k (turn_at_text xs cells lists own closing) e v
 
-  module _ (n : ℕ) (go : KeptIn n) (k : ℕ) (x : Stmt) (rest : List Stmt) (source : Sourced (x ∷ rest)) (cells : List ℤ) (lists : List (List Word)) (own : List Word) (closing : Bool) (mem : List ℤ) (judged : List (List Word))
-      (judge_own : List Word) (judge_closing : Bool) (effects : List Effect) (sites : List ℕ) (e : Ended) (v : Agreed) (facing : Facing lists judged own e.own) (shut : closing ≡ true → judge_closing ≡ true) where
+  module _ (n : ℕ) (go : KeptIn n) (k : ℕ) (x : Stmt) (rest : List Stmt) (source : Sourced (x ∷ rest)) (cells : List ℤ) (lists : List (List Word))
+      (own : List Word) (closing : Bool) (mem : List ℤ) (judged : List (List Word))
+      (judge_own : List Word) (judge_closing : Bool) (effects : List Effect) (sites : List ℕ) (e : Ended) (v : Agreed) (facing : Facing lists judged own e.own)
+      (shut : closing ≡ true → judge_closing ≡ true) where
     abbrev h : Stmt-F Stmt
     h = out-Stmt x
 
@@ -104,7 +114,9 @@ module _ (p : Program) (plan : Plan) (input : List ℤ) (s : ℕ) (low : 0 < s) 
     source_next z = source_onward x rest source z
 
     form_here : (w : WithLoads Effect) → evaluated p input cells h ≡ Ok w → Form p h w.value
-    form_here w q = (evaluated_tracks p input cells cells (λ l. Unit {0}) h own_sound.room (each_map (λ y. 0 < Rattle.dp_tree.specs.Eval.cell_count p (record { 0 = y })) (Readable p cells (λ l. Unit {0})) (λ y r. (r, λ c i. tt)) (head_loads h) own_sound.reads) w q).value
+    form_here w q = (evaluated_tracks p input cells cells (λ l. Unit {0}) h own_sound.room
+        (each_map (λ y. 0 < Rattle.dp_tree.specs.Eval.cell_count p (record { 0 = y })) (Readable p cells (λ l. Unit {0})) (λ y r. (r, λ c i. tt)) (head_loads h)
+        own_sound.reads) w q).value
 
     abbrev here_turn : Turn
     here_turn = turn_at_text (x ∷ rest) cells lists own closing
@@ -145,12 +157,14 @@ module _ (p : Program) (plan : Plan) (input : List ℤ) (s : ℕ) (low : 0 < s) 
             wide = let a = length-set lists (u - 1) w.rest in let b = facing.wide in omega (arith, a, b);
             judged_wide = judged_wide_next;
             same = λ t real less. elim (cases_eq t u) [
-              | inl is ↦ subst (λ (y : ℕ). word_list (slice_set lists (u - 1) w.rest) y ≡ word_list judged_next y) (sym is) (word_list_same lists u w.rest low_here (let b = facing.wide in omega (arith, b, before)) ∙ sym judged_there)
+              | inl is ↦ subst (λ (y : ℕ). word_list (slice_set lists (u - 1) w.rest) y ≡ word_list judged_next y) (sym is)
+                  (word_list_same lists u w.rest low_here (let b = facing.wide in omega (arith, b, before)) ∙ sym judged_there)
               | inr differs ↦ word_list_other lists u t w.rest low_here real differs ∙ facing.same t real less ∙ sym (judged_else t real differs)
             ];
             made_is = facing.made_is ∙ ap (λ (ws : List Word). own ++ ws) (sym (judged_else s low (λ is. other (sym is))));
           } in
-          let ends = go k (followed x rest h (value_of w.effect)) (source_next (value_of w.effect)) (stored w.effect cells) (slice_set lists (u - 1) w.rest) own (closing || closes_at (first_site p plan) (site_of h).0 w.effect)
+          let ends = go k (followed x rest h (value_of w.effect)) (source_next (value_of w.effect)) (stored w.effect cells) (slice_set lists (u - 1) w.rest) own
+          (closing || closes_at (first_site p plan) (site_of h).0 w.effect)
           (stored w.effect mem) judged_next judge_own (judge_closing || closes_at (first_site p plan) (site_of h).0 w.effect) j.effects j.sites e v next
           (sym (turn_takes p plan input x rest well behind s reach cells lists own closing other w takes k)
           ∙ q) (still_left closing judge_closing (closes_at (first_site p plan) (site_of h).0 w.effect) shut) j.goes_on in
@@ -160,7 +174,8 @@ module _ (p : Program) (plan : Plan) (input : List ℤ) (s : ℕ) (low : 0 < s) 
       at_later : s < u → turn_from p plan input s (suc k) here_turn ≡ Ok e → EndsSo (suc k) here_turn e v
       at_later past q =
           let same_text : project_all p plan s (x ∷ rest) ≡ project_all p plan s (followed x rest h (value_of w.effect)) =
-          unseen p plan s x rest h w.effect well (project_out p plan s x) past (taken_form p plan h well (word_list judged u) w j.taken_is) (assumed_of p plan (site_of h).0 w.effect j.assumed) low in
+          unseen p plan s x rest h w.effect well (project_out p plan s x) past (taken_form p plan h well (word_list judged u) w j.taken_is)
+          (assumed_of p plan (site_of h).0 w.effect j.assumed) low in
           let next : Facing lists judged_next own e.own = record {
             wide = facing.wide;
             judged_wide = judged_wide_next;
@@ -182,7 +197,8 @@ module _ (p : Program) (plan : Plan) (input : List ℤ) (s : ℕ) (low : 0 < s) 
 
           fits_or : (r : WithLoads Effect) (b : Bool) → nat_le (length (own ++ words_of p plan (event_of h r))) plan.words ≡ b →
               evaluated p input cells h ≡ Ok r →
-              (if b then turn_from p plan input s k (turn_after p plan input x rest well behind s reach cells lists own closing r.value (own ++ words_of p plan (event_of h r)) lists) else Err Full) ≡ Ok e → EndsSo (suc k) here_turn e v
+              (if b then turn_from p plan input s k (turn_after p plan input x rest well behind s reach cells lists own closing r.value
+              (own ++ words_of p plan (event_of h r)) lists) else Err Full) ≡ Ok e → EndsSo (suc k) here_turn e v
           fits_or r false b gave went = absurd (cc went)
           fits_or r true b gave went =
               let ws : List Word = words_of p plan (event_of h r) in
@@ -199,7 +215,8 @@ module _ (p : Program) (plan : Plan) (input : List ℤ) (s : ℕ) (low : 0 < s) 
             where
               onward : (r : WithLoads Effect) (ws more : List Word) → record { effect = r.value; rest = more } ≡ w →
                   nat_le (length (own ++ words_of p plan (event_of h r))) plan.words ≡ true → evaluated p input cells h ≡ Ok r →
-                  turn_from p plan input s k (turn_after p plan input x rest well behind s reach cells lists own closing r.value (own ++ words_of p plan (event_of h r)) lists) ≡ Ok e →
+                  turn_from p plan input s k (turn_after p plan input x rest well behind s reach cells lists own closing r.value
+                  (own ++ words_of p plan (event_of h r)) lists) ≡ Ok e →
                   e.own ≡ (own ++ words_of p plan (event_of h r)) ++ more → EndsSo (suc k) here_turn e v
               onward r ws more is b gave went grown =
                   let effect_is : r.value ≡ w.effect = ap (λ (t : Taken). t.effect) is in
@@ -213,16 +230,21 @@ module _ (p : Program) (plan : Plan) (input : List ℤ) (s : ℕ) (low : 0 < s) 
                         ∙ ap (λ (ys : List Word). (own ++ words_of p plan (event_of h r)) ++ ys) (rest_is ∙ sym judged_there
                         ∙ ap (word_list judged_next) here);
                   } in
-                  let ends = go k (followed x rest h (value_of r.value)) (source_next (value_of r.value)) (stored r.value cells) lists (own ++ words_of p plan (event_of h r)) (closing || closes_at (first_site p plan) (site_of h).0 r.value)
-                  (stored w.effect mem) judged_next judge_own (judge_closing || closes_at (first_site p plan) (site_of h).0 w.effect) j.effects j.sites e v next went
+                  let ends = go k (followed x rest h (value_of r.value)) (source_next (value_of r.value)) (stored r.value cells) lists
+                  (own ++ words_of p plan (event_of h r)) (closing || closes_at (first_site p plan) (site_of h).0 r.value)
+                  (stored w.effect mem) judged_next judge_own (judge_closing || closes_at (first_site p plan) (site_of h).0 w.effect) j.effects
+                  j.sites e v next went
                   (λ shuts. ap (λ (effect : Effect). judge_closing || closes_at (first_site p plan) (site_of h).0 effect) (sym effect_is)
                   ∙ still_left closing judge_closing (closes_at (first_site p plan) (site_of h).0 r.value) shut shuts)
-                  (ap (λ (effect : Effect). judge_from p plan n (judging_at_text (followed x rest h (value_of effect)) (stored w.effect mem) judged_next judge_own (judge_closing || closes_at (first_site p plan) (site_of h).0 w.effect) j.effects j.sites)) effect_is ∙ j.goes_on) in
+                  (ap (λ (effect : Effect). judge_from p plan n (judging_at_text (followed x rest h (value_of effect)) (stored w.effect mem) judged_next
+                  judge_own (judge_closing || closes_at (first_site p plan) (site_of h).0 w.effect) j.effects j.sites)) effect_is ∙ j.goes_on) in
                   (strict_makes p plan input x rest well behind s reach cells lists own closing here r gave k ∙ rw (assumed, b) ends.0, ends.1)
 
           by : (r : Evaluated Effect) → evaluated p input cells h ≡ r → EndsSo (suc k) here_turn e v
-          by (Err kind) gave = let f = turn_faults p plan input x rest well behind s reach cells lists own closing here kind gave k in let clash : Err f.0 ≡ Ok e = sym f.1 ∙ q in absurd (cc clash)
-          by (Ok r) gave = fits_or r (nat_le (length (own ++ words_of p plan (event_of h r))) plan.words) refl gave (sym (turn_makes p plan input x rest well behind s reach cells lists own closing here r gave k) ∙ q)
+          by (Err kind) gave = let f = turn_faults p plan input x rest well behind s reach cells lists own closing here kind gave k in
+              let clash : Err f.0 ≡ Ok e = sym f.1 ∙ q in absurd (cc clash)
+          by (Ok r) gave = fits_or r (nat_le (length (own ++ words_of p plan (event_of h r))) plan.words) refl gave
+              (sym (turn_makes p plan input x rest well behind s reach cells lists own closing here r gave k) ∙ q)
 
       at_statement : turn_from p plan input s (suc k) here_turn ≡ Ok e → EndsSo (suc k) here_turn e v
       at_statement q = elim (cases_order u s) [
@@ -238,10 +260,13 @@ module _ (p : Program) (plan : Plan) (input : List ℤ) (s : ℕ) (low : 0 < s) 
   kept_in n (suc k) [] source cells lists own closing mem judged judge_own judge_closing effects sites e v facing q shut c =
       let ended : Ok (record { own = own; cells = cells; closing = closing }) ≡ Ok e = q in
       let same : record { own = own; cells = cells; closing = closing } ≡ e = cc ended in
-      let agreed : Clean (record { effects = effects; sites = sites; closing = judge_closing }) ≡ Clean v = sym (judge_ends p plan n (judging_at_text [] mem judged judge_own judge_closing effects sites) refl) ∙ c in
+      let agreed : Clean (record { effects = effects; sites = sites; closing = judge_closing }) ≡ Clean v = sym
+      (judge_ends p plan n (judging_at_text [] mem judged judge_own judge_closing effects sites) refl) ∙ c in
       let is : record { effects = effects; sites = sites; closing = judge_closing } ≡ v = cc agreed in
       (q, λ left. ap (λ (u : Agreed). u.closing) (sym is) ∙ shut (ap (λ (u : Ended). u.closing) same ∙ left))
-  kept_in zero (suc k) (x ∷ rest) source cells lists own closing mem judged judge_own judge_closing effects sites e v facing q shut c = absurd (judge_stops p plan input x rest (head_well x rest source) (head_parts x rest source).1 (last plan) (head_early x rest source) mem judged judge_own judge_closing refl effects sites v c)
+  kept_in zero (suc k) (x ∷ rest) source cells lists own closing mem judged judge_own judge_closing effects sites e v facing q shut c =
+      absurd (judge_stops p plan input x rest (head_well x rest source) (head_parts x rest source).1 (last plan) (head_early x rest source) mem judged judge_own
+      judge_closing refl effects sites v c)
   kept_in (suc n) (suc k) (x ∷ rest) source cells lists own closing mem judged judge_own judge_closing effects sites e v facing q shut c =
       at_statement n (kept_in n) k x rest source cells lists own closing mem judged judge_own judge_closing effects sites e v facing shut
       (judged_here n (kept_in n) k x rest source cells lists own closing mem judged judge_own judge_closing effects sites e v facing shut c) q

@@ -28,17 +28,17 @@ Others u left next = (t : ℕ) → (t ≡ u → ⊥) → next t ≡ left t
 
 -- What is left of each stage's list is what following these statements asks for. At a site its words stand in front of its stage's list,
 -- and say how the text goes on; at a block its item does, with stores alone; and where nothing is left to do, nothing is left of any list.
-pub data Follows (p : Program) (plan : Plan) (m : Marks) : List Stmt → (ℕ → List Item) → Type 0 where
-  ended : {left : ℕ → List Item} → ((t : ℕ) → left t ≡ []) → Follows p plan m [] left
+pub data FollowsText (p : Program) (plan : Plan) (m : Marks) : List Stmt → (ℕ → List Item) → Type 0 where
+  ended : {left : ℕ → List Item} → ((t : ℕ) → left t ≡ []) → FollowsText p plan m [] left
   told : {x : Stmt} {rest : List Stmt} {left next : ℕ → List Item} (event : Event) → m.block_at (site_of (out-Stmt x)).0 ≡ [] →
       Says p plan (out-Stmt x) event (left (stage_of p plan (site_of (out-Stmt x)).0)) (next (stage_of p plan (site_of (out-Stmt x)).0)) →
-      Others (stage_of p plan (site_of (out-Stmt x)).0) left next → Follows p plan m (followed x rest (out-Stmt x) (value_of event.effect)) next →
-      Follows p plan m (x ∷ rest) left
+      Others (stage_of p plan (site_of (out-Stmt x)).0) left next → FollowsText p plan m (followed x rest (out-Stmt x) (value_of event.effect)) next →
+      FollowsText p plan m (x ∷ rest) left
   met : {x : Stmt} {b rest behind : List Stmt} {left next : ℕ → List Item} (count : ℕ) (stores : List Effect) →
       m.block_at (site_of (out-Stmt x)).0 ≡ x ∷ b → behind ≡ b ++ rest → 0 < count → list_all is_store stores ≡ true →
       left (stage_of p plan (site_of (out-Stmt x)).0) ≡ Net (site_of (out-Stmt x)).0 count stores ∷ next (stage_of p plan (site_of (out-Stmt x)).0) →
-      Others (stage_of p plan (site_of (out-Stmt x)).0) left next → Follows p plan m rest next →
-      Follows p plan m (x ∷ behind) left
+      Others (stage_of p plan (site_of (out-Stmt x)).0) left next → FollowsText p plan m rest next →
+      FollowsText p plan m (x ∷ behind) left
 
 -- a turn broke off
 abbrev pub is_void : NetStatus → Bool
@@ -48,7 +48,7 @@ is_void _ = false
 -- The packet has a list of each stage up to s, and these are what following the text of stage s asks for.
 pub record PacketFollows (p : Program) (plan : Plan) (m : Marks) (s : ℕ) (packet : NetPacket) : Type 0 where
   pub size : length packet.lists ≡ s
-  pub follows : Follows p plan m (project_all p plan s (region_statement p plan)) (item_list packet.lists)
+  pub follows : FollowsText p plan m (project_all p plan s (region_statement p plan)) (item_list packet.lists)
 
 -- So it is of each packet that isn't void: no item is passed over, and none is left at the end.
 abbrev pub ItemsFollow : Program → Plan → Type 0

@@ -1,5 +1,6 @@
 -- The judgement on a packet of items: they are followed in the source's committed memory, as the stage after the last one would.
-use Rattle.std.specs.Prelude.{ℕ, zero, suc, if◌then◌else◌, ◌+◌, ◌-◌, ◌==◌, Bool, true, ◌&&◌, List, [], ◌∷◌, ◌++◌, length, drop, ℤ, pos, Option, Some, None, get_or, slice_set, nat_le, nat_lt}
+use Rattle.std.specs.Prelude.{ℕ, zero, suc, if◌then◌else◌, ◌+◌, ◌-◌, ◌==◌, Bool, true, ◌&&◌, List, [], ◌∷◌, ◌++◌, length, drop, ℤ, pos, Option, Some, None}
+use Rattle.std.specs.Prelude.{get_or, slice_set, nat_le, nat_lt}
 use Rattle.std.specs.Ordering.{int_eq}
 use Rattle.dp_tree.specs.declared.Stmt.{Stmt, out-Stmt}
 use Rattle.dp_tree.specs.declared.Stmt.TheOpen.{Stmt-F}

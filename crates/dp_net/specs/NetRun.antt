@@ -1,5 +1,6 @@
 -- One turn of a stage that tells its quiet blocks by their net stores, and breaks off where an own site goes against an assumption.
-use Rattle.std.specs.Prelude.{ℕ, zero, suc, if◌then◌else◌, ◌+◌, ◌-◌, ◌==◌, Bool, false, ◌&&◌, ◌||◌, List, [], ◌∷◌, ◌++◌, length, drop, map, ℤ, Option, Some, None, Ok, Err, slice_set, sum_by, nat_le, nat_lt}
+use Rattle.std.specs.Prelude.{ℕ, zero, suc, if◌then◌else◌, ◌+◌, ◌-◌, ◌==◌, Bool, false, ◌&&◌, ◌||◌, List, [], ◌∷◌, ◌++◌, length, drop, map, ℤ, Option, Some}
+use Rattle.std.specs.Prelude.{None, Ok, Err, slice_set, sum_by, nat_le, nat_lt}
 use Rattle.dp_tree.specs.declared.Stmt.{Stmt, out-Stmt}
 use Rattle.dp_tree.specs.declared.Stmt.TheOpen.{Stmt-F}
 use Rattle.dp_tree.specs.declared.Program.{Program}
@@ -12,7 +13,7 @@ use Rattle.dp_semantics.specs.Clean.{event_as_assumed}
 use Rattle.dp_semantics.specs.Words.{words_of}
 use Rattle.dp_semantics.specs.StageRun.{closes_at}
 use Rattle.dp_semantics.specs.Verdict.{applied, effect_in}
-use Rattle.dp_net.specs.Quiet.{Outcome, Through, Broke}
+use Rattle.dp_net.specs.Quiet.{BlockOutcome, Through, Broke}
 unfoldable use Rattle.dp_net.specs.Quiet.{quiet_from}
 use Rattle.dp_net.specs.NetItems.{Marks, Item, Net, net_of, weights, said_all, item_list, NetTaken, net_taken_from}
 
@@ -71,7 +72,7 @@ module _ (p : Program) (plan : Plan) where
   net_past c rest cells lists own = record { to_do = rest; cells = cells; lists = lists; own = own; closing = c.closing }
 
   -- an own block is run, and told by its net stores; where it faults or doesn't end within the words that are left, the turn breaks off
-  abbrev pub net_made : Marks → ℕ → NetTurn → List Stmt → Outcome → Option NetTurn
+  abbrev pub net_made : Marks → ℕ → NetTurn → List Stmt → BlockOutcome → Option NetTurn
   net_made m site c rest Broke = None
   net_made m site c rest (Through events cells) =
       Some (net_past c rest cells c.lists (c.own ++ Net site (length events) (net_of (m.hides (stage_of p plan site)) (map effect_in events)) ∷ []))

@@ -15,4 +15,3 @@ pub mod FinishLemmas
 pub mod QuietLemmas
 pub mod FitLemmas
 pub mod RunLemmas
-mod LoadRows

@@ -7,7 +7,8 @@ same_next b (x ∷ xs) zero h = refl
 same_next b (x ∷ xs) (suc i) h = same_next b xs i (omega (arith, h))
 
 -- one item more of a list whose items are all the same
-pub pushed_same : {X Y : Type 0} (b : Y) (xs : List X) (i : ℕ) (out new : List Y) (item : Y) (whole : List Y) → i < length xs → new ≡ out ++ item ∷ [] → item ≡ b
+pub pushed_same : {X Y : Type 0} (b : Y) (xs : List X) (i : ℕ) (out new : List Y) (item : Y) (whole : List Y) → i < length xs →
+    new ≡ out ++ item ∷ [] → item ≡ b
     → out ++ map (λ _. b) (drop i xs) ≡ whole → new ++ map (λ _. b) (drop (i + 1) xs) ≡ whole
 pushed_same b xs i out new item whole h pushed is so =
     let next : i + 1 ≡ suc i = omega arith in

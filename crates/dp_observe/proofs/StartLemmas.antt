@@ -35,10 +35,12 @@ module _ (p : Program) (region : ℕ) (sites : List RegionSite) where
     locals = starts.locals;
     size = ap length starts.tallies ∙ length-map sites (λ _. blank);
     tallies = λ place s t there got.
-        subst (TallyFits p region sites [] s) (sym (all_same blank sites place t (sym (ap (λ (ts : List Tally). slice_get ts place) starts.tallies) ∙ got))) (blank_fits s);
+        subst (TallyFits p region sites [] s) (sym (all_same blank sites place t (sym (ap (λ (ts : List Tally). slice_get ts place) starts.tallies)
+        ∙ got))) (blank_fits s);
   }
 
-pub board_starts : (p : Program) (b : Board) → IsInlined p → ((n : ℕ) → at b.owners n ≡ owner_after n 0 (2 ^ 64 - 1) (regions p)) → b.writers ≡ record { items = []; rest = nobody } → AllStart p (regions p) b.counters
+pub board_starts : (p : Program) (b : Board) → IsInlined p → ((n : ℕ) → at b.owners n ≡ owner_after n 0 (2 ^ 64 - 1) (regions p)) →
+    b.writers ≡ record { items = []; rest = nobody } → AllStart p (regions p) b.counters
     → BoardFits p [] b
 board_starts p b inlined owners writers starts =
     let apart = regions_apart p inlined in let few = starts.few in
@@ -46,7 +48,9 @@ board_starts p b inlined owners writers starts =
       writers = λ k. ap (λ (w : Sparse Writer). at w k) writers;
       owners = λ n place sites there.
           let from : 0 + place ≡ place = omega arith in
-          owner_is n 1 0 (2 ^ 64 - 1) (regions p) place sites apart (omega (arith, few)) there ∙ ap (λ m. owner_after n 0 (2 ^ 64 - 1) (regions p) == m) from ∙ ap (λ o. o == place) (sym (owners n));
+          owner_is n 1 0 (2 ^ 64 - 1) (regions p) place sites apart (omega (arith, few)) there ∙ ap (λ m. owner_after n 0 (2 ^ 64 - 1) (regions p) == m) from
+          ∙ ap (λ o. o == place) (sym (owners n));
       size = starts.size;
-      counters = λ place sites c there got. counter_starts p (place + 1) sites c (order_of 1 (regions p) place sites apart there) (starts.each place sites c there got);
+      counters = λ place sites c there got. counter_starts p (place + 1) sites c (order_of 1 (regions p) place sites apart there)
+          (starts.each place sites c there got);
     }

@@ -9,7 +9,8 @@ pub no_sites : (place : ℕ) (from : RegionSite) (sites : List RegionSite) (tall
 no_sites place from [] tallies e = refl
 no_sites place from (s ∷ sites) tallies e = absurd (omega (arith, e))
 
-pub no_tallies : (place : ℕ) (from : RegionSite) (sites : List RegionSite) (tallies : List Tally) → length tallies ≡ 0 → flows_from place from sites tallies ≡ []
+pub no_tallies : (place : ℕ) (from : RegionSite) (sites : List RegionSite) (tallies : List Tally) → length tallies ≡ 0 →
+    flows_from place from sites tallies ≡ []
 no_tallies place from [] tallies e = refl
 no_tallies place from (s ∷ sites) [] e = refl
 no_tallies place from (s ∷ sites) (t ∷ tallies) e = absurd (omega (arith, e))

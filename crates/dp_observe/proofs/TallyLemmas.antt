@@ -6,8 +6,8 @@ use Rattle.dp_tree.specs.Step.{Event, Effect, Stored, Printed, Decided, Tried}
 use Rattle.dp_meaning.specs.Watched.{cells_of, effect_seen}
 use Rattle.dp_profile.specs.declared.SiteCount.{SiteCount}
 use Rattle.dp_profile.specs.declared.sites.RegionSite.{RegionSite}
-use Rattle.dp_profile.specs.Sites.{has_site}
-use Rattle.dp_profile.specs.Observed.{gives_nonzero, site_count, is_local_cell, shown_by, shown_back}
+use Rattle.dp_profile.specs.Sites.{has_numbered_site}
+use Rattle.dp_profile.specs.Observed.{gives_nonzero, counts_of_site, is_body_cell, shown_by, shown_back}
 use Rattle.dp_observe.specs.declared.frame.Frame.{Frame}
 use Rattle.dp_observe.specs.declared.frame.Writer.{Writer}
 use Rattle.dp_observe.specs.declared.sparse.Sparse.{Sparse}
@@ -35,7 +35,8 @@ nothing_more runs nonzero = ap (λ n. count_of n (0 + nonzero)) (from_zero runs)
 
 module _ (p : Program) (region : ℕ) (sites : List RegionSite) (e : Event) (past : List Event) (s : RegionSite) where
   count_next : (same : Bool) → (e.site == s.site.0) ≡ same
-      → site_count (e ∷ past) s ≡ count_of (one_if same + count_by (λ (d : Event). d.site == s.site.0) past) (one_if (same && gives_nonzero e.effect) + count_by (λ (d : Event). (d.site == s.site.0) && gives_nonzero d.effect) past)
+      → counts_of_site (e ∷ past) s ≡ count_of (one_if same + count_by (λ (d : Event). d.site == s.site.0) past)
+      (one_if (same && gives_nonzero e.effect) + count_by (λ (d : Event). (d.site == s.site.0) && gives_nonzero d.effect) past)
   count_next same is =
       ap (λ n. count_of n (count_by (λ (d : Event). (d.site == s.site.0) && gives_nonzero d.effect) (e ∷ past)))
       (count_cons (λ (d : Event). d.site == s.site.0) e past ∙ ap (λ b. one_if b + count_by (λ (d : Event). d.site == s.site.0) past) is)
@@ -46,20 +47,23 @@ module _ (p : Program) (region : ℕ) (sites : List RegionSite) (e : Event) (pas
   -- an event at another site
   pub tally_other : (t : Tally) → (e.site == s.site.0) ≡ false → TallyFits p region sites past s t → TallyFits p region sites (e ∷ past) s t
   tally_other t other fits = record {
-    count = fits.count ∙ sym (count_next false other ∙ nothing_more (count_by (λ (d : Event). d.site == s.site.0) past) (count_by (λ (d : Event). (d.site == s.site.0) && gives_nonzero d.effect) past));
+    count = fits.count ∙ sym (count_next false other ∙ nothing_more (count_by (λ (d : Event). d.site == s.site.0) past)
+        (count_by (λ (d : Event). (d.site == s.site.0) && gives_nonzero d.effect) past));
     shown = λ place d carried there. fits.shown place d carried there ∙ sym (rw other (from_zero (shown_back p region sites d.site.0 s.site.0 carried past)));
   }
 
   -- an event at the site
-  pub tally_own : (f : Frame) (writers : Sparse Writer) (locals : Sparse Bool) (t u : Tally) → InOrder f.first.0 sites → has_site e.site sites ≡ true → f.since ≡ since sites (e ∷ past) → f.begun ≡ begun sites (e ∷ past)
-      → ((k : ℕ) → at writers k ≡ writer_of k past) → ((k : ℕ) → at locals k ≡ is_local_cell p region k) → (e.site == s.site.0) ≡ true
+  pub tally_own : (f : Frame) (writers : Sparse Writer) (locals : Sparse Bool) (t u : Tally) → InOrder f.first.0 sites → has_numbered_site e.site sites ≡ true →
+      f.since ≡ since sites (e ∷ past) → f.begun ≡ begun sites (e ∷ past)
+      → ((k : ℕ) → at writers k ≡ writer_of k past) → ((k : ℕ) → at locals k ≡ is_body_cell p region k) → (e.site == s.site.0) ≡ true
       → TallyCounts (effect_seen e.effect) (cells_of e.loads) f writers locals t u → TallyFits p region sites past s t → TallyFits p region sites (e ∷ past) s u
   tally_own f writers locals t u order here starts begins written local same counts fits = record {
     count = counts.count ∙ ap (λ (c : SiteCount). counted c (effect_seen e.effect)) fits.count ∙ one_more ∙ sym (count_next true same);
     shown = λ place d carried there.
         counts.shown (2 * place + one_if carried)
         ∙ ap (λ n. n + loads_at f writers locals (2 * place + one_if carried) (cells_of e.loads)) (fits.shown place d carried there)
-        ∙ ap (λ n. shown_back p region sites d.site.0 s.site.0 carried past + n) (loads_shown p region sites e past f writers locals order here starts begins written local place d carried there)
+        ∙ ap (λ n. shown_back p region sites d.site.0 s.site.0 carried past + n) (loads_shown p region sites e past f writers locals order here starts begins
+        written local place d carried there)
         ∙ swap (shown_back p region sites d.site.0 s.site.0 carried past) (shown_by p region sites d.site.0 carried e past)
         ∙ sym (rw same refl);
   }
@@ -75,4 +79,5 @@ module _ (p : Program) (region : ℕ) (sites : List RegionSite) (e : Event) (pas
 
       one_more : count_of (runs + 1) (nonzero + one_if (is_nonzero (effect_seen e.effect))) ≡ count_of (1 + runs) (one_if (gives_nonzero e.effect) + nonzero)
       one_more = ap (λ n. count_of n (nonzero + one_if (is_nonzero (effect_seen e.effect)))) (swap runs 1)
-          ∙ ap (λ b. count_of (1 + runs) (nonzero + one_if b)) (nonzero_seen e.effect) ∙ ap (count_of (1 + runs)) (swap nonzero (one_if (gives_nonzero e.effect)))
+          ∙ ap (λ b. count_of (1 + runs) (nonzero + one_if b)) (nonzero_seen e.effect)
+          ∙ ap (count_of (1 + runs)) (swap nonzero (one_if (gives_nonzero e.effect)))

@@ -89,7 +89,8 @@ impl Board {
     fn store(&mut self, seen: Seen<'_>) -> Result<(), NoMemory>
         ensures owners { OnOk result (self.new.owners ≡ self.old.owners) }
         ensures counters { OnOk result (self.new.counters ≡ self.old.counters) }
-        ensures writers { OnOk result ((k : ℕ) → at self.new.writers k ≡ writer_after seen.entry.site seen.entry.effect seen.entry.after k (at self.old.writers k)) }
+        ensures writers { OnOk result ((k : ℕ) → at self.new.writers k ≡ writer_after seen.entry.site seen.entry.effect seen.entry.after k
+            (at self.old.writers k)) }
     {
         if let Effect::Stored { cell, .. } = seen.effect {
             let writer = Writer {

@@ -13,5 +13,6 @@ use dp_tree::Program;
 #[tactic(auto, using(crate::proofs::FitLemmas::observed_fits))]
 pub fn observed_profiles_fit(p: &Program)
     requires { IsInlined p.now }
-    ensures { (input : List ℤ) (fuel : ℕ) → fuel ≤ most_count → loads_made (run_of p.now input fuel (begin p.now)).trace ≤ most_count → ProfileFits p.now (observed p.now input fuel).profile }
+    ensures { (input : List ℤ) (fuel : ℕ) → fuel ≤ most_count → loads_made (run_of p.now input fuel (begin p.now)).trace ≤ most_count →
+        ProfileFits p.now (observed p.now input fuel).profile }
 {}

@@ -1,6 +1,6 @@
 //! The cells of a region's body locals.
 ghost use Rattle.std.specs.Prelude.{◌≡◌, ℕ, ◌+◌, ◌||◌, ◌&&◌, nat_le, nat_lt, IfOk, OnOk};
-ghost use Rattle.dp_profile.specs.Observed.{is_local_cell};
+ghost use Rattle.dp_profile.specs.Observed.{is_body_cell};
 ghost use Rattle.dp_observe.specs.Sparse.{at};
 
 use crate::sparse::Sparse;
@@ -26,7 +26,7 @@ pub(crate) fn locals_of(
     program: &Program,
     region: u32,
 ) -> Result<Sparse<bool>, NoMemory>
-    ensures { IfOk result (λ locals. (k : ℕ) → at locals k ≡ is_local_cell program.now region k) }
+    ensures { IfOk result (λ locals. (k : ℕ) → at locals k ≡ is_body_cell program.now region k) }
 {
     let mut locals = Sparse::new(alloc, false);
     for info in program.vars.as_slice() {

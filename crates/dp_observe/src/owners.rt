@@ -1,6 +1,6 @@
 //! The regions of sites.
 ghost use Rattle.std.specs.Prelude.{◌≡◌, ℕ, ◌^◌, ◌-◌, if◌then◌else◌, IfOk, OnOk};
-ghost use Rattle.dp_profile.specs.Sites.{has_site};
+ghost use Rattle.dp_profile.specs.Sites.{has_numbered_site};
 ghost use Rattle.dp_observe.specs.Sparse.{at};
 ghost use Rattle.dp_observe.specs.steps.Owners.{owner_after};
 
@@ -12,7 +12,7 @@ use std::alloc::Global;
 /// Gives these sites to the region at a place.
 #[tactic(auto, using(crate::proofs::OwnerLemmas::gives))]
 fn give(owners: &mut Sparse<usize>, sites: &[RegionSite], place: usize) -> Result<(), NoMemory>
-    ensures { OnOk result ((n : ℕ) → at owners.new n ≡ (if has_site n sites.now then place else at owners.old n)) }
+    ensures { OnOk result ((n : ℕ) → at owners.new n ≡ (if has_numbered_site n sites.now then place else at owners.old n)) }
 {
     for site in sites {
         owners.set(site.site.0 as usize, place)?;

@@ -88,7 +88,8 @@ impl Tally {
         cells: &[usize],
     ) -> Result<(), NoMemory>
         ensures count { OnOk result (self.new.count ≡ self.old.count) }
-        ensures shown { OnOk result ((k : ℕ) → at_column self.new.shown k ≡ at_column self.old.shown k + definition.loads_at frame writers.now locals.now k cells.now) }
+        ensures shown { OnOk result ((k : ℕ) → at_column self.new.shown k ≡ at_column self.old.shown k + definition.loads_at frame writers.now
+            locals.now k cells.now) }
     {
         for cell in cells {
             self.loaded(frame.column(writers.get(*cell), locals.get(*cell)))?;

@@ -11,7 +11,7 @@ use Rattle.dp_parse.specs.declared.level.Level.TheVariants.{Or}
 use Rattle.dp_parse.specs.Levels.{joining}
 use Rattle.dp_parse.specs.Rules.{Part, Word, Of, Expression, Simple, First, Head}
 use Rattle.dp_parse.specs.Rules as rule
-use Rattle.dp_tokens.specs.Steps.{Outcome, Parser, ◌>>=◌, pure, and_then, expect, sees}
+use Rattle.dp_tokens.specs.Steps.{Outcome, Parser, ◌>>=◌, pure, parse_then, expect, sees_symbol}
 use Rattle.dp_tokens.specs.Steps as step
 use Rattle.dp_parse.specs.steps.Expressions as expr
 use Rattle.dp_parse.specs.steps.Heads as read
@@ -33,12 +33,15 @@ alone p r = same_reading (λ ts. sym (alone_by (p ts))) r
 module _ {B : Type 0} (n : ℕ) (rest : List Part) (next : Inner expr.whole (Expression Or) n rest) where
   value_then : (f : RawExpr → Parser B) → ((e : RawExpr) → Reading (f e) n rest) → Reading (read.value >>= f) n (Word Assign ∷ Of (Expression Or) ∷ rest)
   unfolding read.value
-  value_then f goes = same_reading (grouped (λ _. expr.whole) f (expect Assign)) (word_and Assign n _ _ (λ _. part_and expr.whole (Expression Or) n _ next _ goes))
+  value_then f goes = same_reading (grouped (λ _. expr.whole) f (expect Assign))
+      (word_and Assign n _ _ (λ _. part_and expr.whole (Expression Or) n _ next _ goes))
 
-  pub declare_then : (f : RawStmt → Parser B) → ((s : RawStmt) → Reading (f s) n rest) → Reading (read.declare >>= f) n (Word Int ∷ Word Name ∷ Word Assign ∷ Of (Expression Or) ∷ rest)
+  pub declare_then : (f : RawStmt → Parser B) → ((s : RawStmt) → Reading (f s) n rest) →
+      Reading (read.declare >>= f) n (Word Int ∷ Word Name ∷ Word Assign ∷ Of (Expression Or) ∷ rest)
   unfolding read.declare
   declare_then f goes =
-      same_reading (grouped (λ (int : Lexeme). step.name >>= (λ name. read.value >>= (λ value. pure (tree.Declare int.line name value)))) f (expect Int)) (word_and Int n _ _ (λ int.
+      same_reading (grouped (λ (int : Lexeme). step.name >>= (λ name. read.value >>= (λ value. pure (tree.Declare int.line name value)))) f (expect Int))
+      (word_and Int n _ _ (λ int.
       same_reading (grouped (λ name. read.value >>= (λ value. pure (tree.Declare int.line name value))) f step.name) (name_and n _ _ (λ name.
       same_reading (grouped (λ value. pure (tree.Declare int.line name value)) f read.value) (value_then _ (λ e. goes (tree.Declare int.line name e)))))))
 
@@ -49,10 +52,12 @@ module _ {B : Type 0} (n : ℕ) (rest : List Part) (next : Inner expr.whole (Exp
     store_then : Reading (read.store name >>= f) n (Word OpenBracket ∷ Of (Expression Or) ∷ Word CloseBracket ∷ Word Assign ∷ Of (Expression Or) ∷ rest)
     unfolding read.store
     store_then =
-        same_reading (grouped (λ _. expr.whole >>= (λ index. expect CloseBracket >>= (λ _. read.value >>= (λ value. pure (tree.Store name index value))))) f (expect OpenBracket)) (word_and OpenBracket n _ _ (λ _.
+        same_reading (grouped (λ _. expr.whole >>= (λ index. expect CloseBracket >>= (λ _. read.value >>= (λ value. pure (tree.Store name index value))))) f
+        (expect OpenBracket)) (word_and OpenBracket n _ _ (λ _.
         same_reading (grouped (λ index. expect CloseBracket >>= (λ _. read.value >>= (λ value. pure (tree.Store name index value)))) f expr.whole)
         (part_and expr.whole (Expression Or) n _ (expr_before CloseBracket n _ refl (λ e. cc e)) _ (λ index.
-        same_reading (grouped (λ _. read.value >>= (λ value. pure (tree.Store name index value))) f (expect CloseBracket)) (word_and CloseBracket n _ _ (λ _. valued (tree.Store name index)))))))
+        same_reading (grouped (λ _. read.value >>= (λ value. pure (tree.Store name index value))) f (expect CloseBracket))
+        (word_and CloseBracket n _ _ (λ _. valued (tree.Store name index)))))))
 
     assign_by : (b : Bool) → Shrinks (read.assign_by name b >>= f)
     assign_by true from = store_then.shrinks from
@@ -60,20 +65,22 @@ module _ {B : Type 0} (n : ℕ) (rest : List Part) (next : Inner expr.whole (Exp
 
     assign_shrinks : Shrinks (read.assign name >>= f)
     unfolding read.assign
-    assign_shrinks from = assign_by (sees OpenBracket from) from
+    assign_shrinks from = assign_by (sees_symbol OpenBracket from) from
 
     pub scalar_then : Reading (read.assign name >>= f) n (Word Assign ∷ Of (Expression Or) ∷ rest)
     scalar_then = record {
       shrinks = assign_shrinks;
       goes = λ from to fits g.
-          same_beyond to (ap (λ (o : Outcome RawStmt). and_then o f) (assign_other name from (λ k. let clash : Assign ≡ OpenBracket = sym (word_first g) ∙ k in cc clash)))
+          same_beyond to (ap (λ (o : Outcome RawStmt). parse_then o f)
+          (assign_other name from (λ k. let clash : Assign ≡ OpenBracket = sym (word_first g) ∙ k in cc clash)))
           ((valued (tree.Assign name)).goes from to fits g);
     }
 
     pub element_then : Reading (read.assign name >>= f) n (Word OpenBracket ∷ Of (Expression Or) ∷ Word CloseBracket ∷ Word Assign ∷ Of (Expression Or) ∷ rest)
     element_then = record {
       shrinks = assign_shrinks;
-      goes = λ from to fits g. same_beyond to (ap (λ (o : Outcome RawStmt). and_then o f) (assign_bracket name from (word_first g))) (store_then.goes from to fits g);
+      goes = λ from to fits g. same_beyond to (ap (λ (o : Outcome RawStmt). parse_then o f) (assign_bracket name from (word_first g)))
+          (store_then.goes from to fits g);
     }
 
 -- ---- what stands in the parentheses of a `for`
@@ -107,7 +114,7 @@ first_by false from = (scalar_read 0).shrinks from
 
 first_shrinks : Shrinks read.first
 unfolding read.first
-first_shrinks from = first_by (sees Int from) from
+first_shrinks from = first_by (sees_symbol Int from) from
 
 first_goes : (n : ℕ) (from to : List Lexeme) → length from ≤ n → Goes First from to → Beyond (read.first from) to
 first_goes n from to fits (by rule.declared g) = same_beyond to (first_int from (word_first g)) ((declare_read n).goes from to fits g)

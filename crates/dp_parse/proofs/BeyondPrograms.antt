@@ -15,7 +15,7 @@ use Rattle.dp_parse.specs.Programs as derives
 use Rattle.dp_parse.specs.Rules.{Part, Word, Of, Block, Item, Items, Tops, Ending, Body, Program}
 use Rattle.dp_parse.specs.Begins.{Begins}
 use Rattle.dp_parse.specs.Rules as rule
-use Rattle.dp_tokens.specs.Steps.{Parser, ◌>>=◌, pure, eat, sees, after, many}
+use Rattle.dp_tokens.specs.Steps.{Parser, ◌>>=◌, pure, eat, sees_symbol, after, many}
 use Rattle.dp_tokens.specs.Numbers as numbers
 use Rattle.dp_parse.specs.steps.Programs as read
 use Rattle.dp_parse.proofs.StepLemmas.{eats, stays, after-le}
@@ -27,7 +27,8 @@ use Rattle.dp_parse.proofs.ProgramSound.{inside, DerivesPart, sound_part}
 use Rattle.dp_parse.proofs.ProgramComplete.{part_int, part_void, ends_return, reads_tops, return_closes, reads_returned, reads_item}
 use Rattle.dp_parse.proofs.StuckPrograms.{semicolon, returned_sound, returned_stuck, part_stuck, an_item, a_body}
 use Rattle.dp_parse.proofs.Going.{Goes, GoesParts, by, last, token, last_zero, next_zero, within, past, normal, OrNone, word_first}
-use Rattle.dp_parse.proofs.Beyond.{Beyond, Shrinks, shrinks_if, shrinks_as, begins_shorter, further, same_beyond, and_on, number_shrinks, Reading, Inner, part_and, word_and, ends, mapped_and, many_shrinks}
+use Rattle.dp_parse.proofs.Beyond.{Beyond, Shrinks, shrinks_if, shrinks_as, begins_shorter, further, same_beyond, and_on, number_shrinks, Reading, Inner}
+use Rattle.dp_parse.proofs.Beyond.{part_and, word_and, ends, mapped_and, many_shrinks}
 use Rattle.dp_parse.proofs.BeyondCalls.{word_splits}
 use Rattle.dp_parse.proofs.BeyondItems.{function_read, plain_read, started_read, below_read, bracket_read}
 use Rattle.dp_parse.proofs.BeyondTops.{top_shrinks, tops_go}
@@ -51,8 +52,10 @@ returned_opens w from is = eats Return read.returned_by w from is
 
 returned_goes : (from to : List Lexeme) → Goes Ending from to → Beyond (read.returned from) to
 returned_goes from to (by rule.return (last {t} w)) = same_beyond to (returned_opens t to w) (zero_shrinks (numbers.sees_zero to) to)
-returned_goes from to (by rule.return (token {t = word} w (last_zero {t} z))) = same_beyond to (returned_opens word (t ∷ to) w ∙ zero_opens t to z) ((semicolon_read 0).shrinks to)
-returned_goes from to (by rule.return (token {t = word} w (next_zero {t} {from = middle} z g))) = same_beyond to (returned_opens word (t ∷ middle) w ∙ zero_opens t middle z) ((semicolon_read (length middle)).goes middle to (omega arith) g)
+returned_goes from to (by rule.return (token {t = word} w (last_zero {t} z))) =
+    same_beyond to (returned_opens word (t ∷ to) w ∙ zero_opens t to z) ((semicolon_read 0).shrinks to)
+returned_goes from to (by rule.return (token {t = word} w (next_zero {t} {from = middle} z g))) =
+    same_beyond to (returned_opens word (t ∷ middle) w ∙ zero_opens t middle z) ((semicolon_read (length middle)).goes middle to (omega arith) g)
 
 ending : (n : ℕ) (parts : List Part) → Inner read.returned Ending n (Word CloseBrace ∷ parts)
 unfolding read.returned
@@ -89,11 +92,14 @@ inside_read n = word_and CloseParen n _ _ (λ _. word_and OpenBrace n _ _ (λ _.
 void_shrinks : Shrinks (eat Void >>= (λ _. inside))
 void_shrinks from = further _ (after Void from) from (after-le Void from) ((inside_read 0).shrinks (after Void from))
 
-plain_goes : (n : ℕ) (from to : List Lexeme) → length from ≤ n → GoesParts (Word CloseParen ∷ Word OpenBrace ∷ Of Tops ∷ Of Ending ∷ Word CloseBrace ∷ []) from to → Beyond ((eat Void >>= (λ _. inside)) from) to
+plain_goes : (n : ℕ) (from to : List Lexeme) → length from ≤ n → GoesParts (Word CloseParen ∷ Word OpenBrace ∷ Of Tops ∷ Of Ending ∷ Word CloseBrace ∷ []) from
+    to → Beyond ((eat Void >>= (λ _. inside)) from) to
 plain_goes n from to fits g =
-    same_beyond to (stays Void (λ _. inside) from (λ e. let clash : CloseParen ≡ Void = sym (word_first g) ∙ e in cc clash)) ((inside_read n).goes from to fits g)
+    same_beyond to (stays Void (λ _. inside) from (λ e. let clash : CloseParen ≡ Void = sym (word_first g) ∙ e in cc clash))
+    ((inside_read n).goes from to fits g)
 
-void_goes : (n : ℕ) (from to : List Lexeme) → length from ≤ n → GoesParts (Word Void ∷ Word CloseParen ∷ Word OpenBrace ∷ Of Tops ∷ Of Ending ∷ Word CloseBrace ∷ []) from to → Beyond ((eat Void >>= (λ _. inside)) from) to
+void_goes : (n : ℕ) (from to : List Lexeme) → length from ≤ n → GoesParts (Word Void ∷ Word CloseParen ∷ Word OpenBrace ∷ Of Tops ∷ Of Ending ∷ Word CloseBrace
+    ∷ []) from to → Beyond ((eat Void >>= (λ _. inside)) from) to
 void_goes n from to fits (last {t} v) = same_beyond to (eats Void (λ _. inside) t to v) ((inside_read 0).shrinks to)
 void_goes n from to fits (token {t} {from = middle} v g) = same_beyond to (eats Void (λ _. inside) t middle v) ((inside_read n).goes middle to (omega arith) g)
 
@@ -115,10 +121,11 @@ global_shrinks true = (mapped_and read.main_part 0 _ (main_read 0) TheBody).shri
 global_shrinks false = (mapped_and read.variable 0 _ (plain_read 0) AnItem).shrinks
 
 int_shrinks : Shrinks (eat Main >>= read.global_by)
-int_shrinks from = further _ (after Main from) from (after-le Main from) (global_shrinks (sees Main from) (after Main from))
+int_shrinks from = further _ (after Main from) from (after-le Main from) (global_shrinks (sees_symbol Main from) (after Main from))
 
 -- a variable, behind its `int`
-variable_goes : (parts : List Part) → ((n : ℕ) → Reading read.variable n (Word Name ∷ parts)) → (from to : List Lexeme) → GoesParts (Word Int ∷ Word Name ∷ parts) from to → Beyond (read.part from) to
+variable_goes : (parts : List Part) → ((n : ℕ) → Reading read.variable n (Word Name ∷ parts)) → (from to : List Lexeme) →
+    GoesParts (Word Int ∷ Word Name ∷ parts) from to → Beyond (read.part from) to
 variable_goes parts r from to (last {t} i) = same_beyond to (part_int t to i) (int_shrinks to)
 variable_goes parts r from to (token {t} {from = middle} i g) =
     same_beyond to (part_int t middle i ∙ stays Main read.global_by middle (λ e. let clash : Name ≡ Main = sym (word_first g) ∙ e in cc clash))
@@ -130,14 +137,18 @@ item_goes from to (by rule.started g) = variable_goes _ started_read from to g
 item_goes from to (by rule.below_zero g) = variable_goes _ below_read from to g
 item_goes from to (by rule.array g) = variable_goes _ bracket_read from to g
 item_goes from to (by rule.function (last {t} v)) = same_beyond to (part_void t to v) ((function_and 0).shrinks to)
-item_goes from to (by rule.function (token {t} {from = middle} v g)) = same_beyond to (part_void t middle v) ((function_and (length middle)).goes middle to (omega arith) g)
+item_goes from to (by rule.function (token {t} {from = middle} v g)) =
+    same_beyond to (part_void t middle v) ((function_and (length middle)).goes middle to (omega arith) g)
 
 -- `main`, behind its `int`
-body_by : (parts : List Part) → ((n : ℕ) → Reading read.main_part n parts) → (from to : List Lexeme) → GoesParts (Word Int ∷ Word Main ∷ parts) from to → Beyond (read.part from) to
+body_by : (parts : List Part) → ((n : ℕ) → Reading read.main_part n parts) → (from to : List Lexeme) → GoesParts (Word Int ∷ Word Main ∷ parts) from to →
+    Beyond (read.part from) to
 body_by parts r from to (last {t} i) = same_beyond to (part_int t to i) (int_shrinks to)
-body_by parts r from to (token {t} i (last {t = name} m)) = same_beyond to (part_int t (name ∷ to) i ∙ eats Main read.global_by name to m) (global_shrinks true to)
+body_by parts r from to (token {t} i (last {t = name} m)) =
+    same_beyond to (part_int t (name ∷ to) i ∙ eats Main read.global_by name to m) (global_shrinks true to)
 body_by parts r from to (token {t} i (token {t = name} {from = middle} m g)) =
-    same_beyond to (part_int t (name ∷ middle) i ∙ eats Main read.global_by name middle m) ((mapped_and read.main_part (length middle) _ (r (length middle)) TheBody).goes middle to (omega arith) g)
+    same_beyond to (part_int t (name ∷ middle) i ∙ eats Main read.global_by name middle m)
+    ((mapped_and read.main_part (length middle) _ (r (length middle)) TheBody).goes middle to (omega arith) g)
 
 body_goes : (from to : List Lexeme) → Goes Body from to → Beyond (read.part from) to
 body_goes from to (by rule.main g) = body_by _ main_read from to g
@@ -149,7 +160,8 @@ finished_shrinks : (items : List RawItem) (body : List RawStmt) → Shrinks (rea
 finished_shrinks items body [] = omega arith
 finished_shrinks items body (t ∷ ts) = omega arith
 
-program_by : (again : List RawItem → Parser RawProgram) → ((found : List RawItem) → Shrinks (again found)) → (found : List RawItem) (p : ReadPart) → Shrinks (read.program_by again found p)
+program_by : (again : List RawItem → Parser RawProgram) → ((found : List RawItem) → Shrinks (again found)) → (found : List RawItem) (p : ReadPart) →
+    Shrinks (read.program_by again found p)
 program_by again goes found (AnItem i) = goes (found ++ i ∷ [])
 program_by again goes found (TheBody body) = finished_shrinks found body
 
@@ -159,17 +171,23 @@ read_shorter from to (TheBody body) d = no_longer Body _ _ (_, d)
 
 part_shrinks : Shrinks read.part
 part_shrinks =
-    shrinks_if read.part (λ from to p is. read_shorter from to p (sound_part from to p is)) (λ from to is. elim (part_stuck from to is) [ an_item b ↦ begins_shorter b | a_body b ↦ begins_shorter b ])
+    shrinks_if read.part (λ from to p is. read_shorter from to p (sound_part from to p is)) (λ from to is. elim (part_stuck from to is) [
+      | an_item b ↦
+          begins_shorter b
+      | a_body b ↦ begins_shorter b
+    ])
 
 from_shrinks : (k : ℕ) (found : List RawItem) → Shrinks (read.program_from k found)
 unfolding read.program_from
 from_shrinks zero found from = omega arith
-from_shrinks (suc k) found from = and_on read.part (read.program_by (read.program_from k) found) (λ p. program_by (read.program_from k) (from_shrinks k) found p) from from (part_shrinks from)
+from_shrinks (suc k) found from = and_on read.part (read.program_by (read.program_from k) found) (λ p. program_by (read.program_from k) (from_shrinks k) found
+    p) from from (part_shrinks from)
 
 from_first : (k : ℕ) (found : List RawItem) (from to : List Lexeme) → length from ≤ k → Beyond (read.part from) to → Beyond (read.program_from k found from) to
 unfolding read.program_from
 from_first zero found from to fits h = omega arith
-from_first (suc k) found from to fits h = and_on read.part (read.program_by (read.program_from k) found) (λ p. program_by (read.program_from k) (from_shrinks k) found p) from to h
+from_first (suc k) found from to fits h =
+    and_on read.part (read.program_by (read.program_from k) found) (λ p. program_by (read.program_from k) (from_shrinks k) found p) from to h
 
 items_go : {from to : List Lexeme} → Goes Items from to → (k : ℕ) (found : List RawItem) → length from ≤ k → Beyond (read.program_from k found from) to
 items_go (by {from} {to} rule.more_items (within g)) k found fits = from_first k found from to fits (item_goes from to g)
@@ -177,7 +195,8 @@ items_go (by {from} {to} rule.more_items (past {middle} d (within g))) k found f
     let less = shorter Item _ _ refl d in
     same_beyond to (program_item k found from middle d.0 (reads_item d.1) less fits) (items_go g (k - 1) (found ++ d.0 ∷ []) (omega arith))
 
-then_body : {from middle : List Lexeme} {items : List RawItem} → DerivesItems from middle items → (to : List Lexeme) → Goes Body middle to → (k : ℕ) (found : List RawItem) → length from ≤ k → Beyond (read.program_from k found from) to
+then_body : {from middle : List Lexeme} {items : List RawItem} → DerivesItems from middle items → (to : List Lexeme) → Goes Body middle to →
+    (k : ℕ) (found : List RawItem) → length from ≤ k → Beyond (read.program_from k found from) to
 then_body (derives.none {to = from}) to g k found fits = from_first k found from to fits (body_goes from to g)
 then_body (derives.more {from} {middle} {i} d ds) to g k found fits =
     let less = shorter Item _ _ refl (_, d) in

@@ -7,7 +7,7 @@ use Rattle.dp_tokens.specs.declared.symbol.Symbol.TheVariants.{Name, Int, Print,
 use Rattle.dp_tokens.specs.Symbols.{symbol_at}
 use Rattle.dp_parse.specs.Rules.{Part, Word, Of, Condition, Head, Statement, Exit, Inside, Loop}
 use Rattle.dp_parse.specs.Rules as rule
-use Rattle.dp_tokens.specs.Steps.{Parser, sees, many}
+use Rattle.dp_tokens.specs.Steps.{Parser, sees_symbol, many}
 use Rattle.dp_parse.specs.steps.Heads as heads
 use Rattle.dp_parse.specs.steps.Statements as statements
 use Rattle.dp_parse.specs.steps.Regions as read
@@ -31,7 +31,8 @@ module _ (n : ℕ) where
 
   -- ---- statements
 
-  other_goes : (s : Symbol) (from to : List Lexeme) → symbol_at from ≡ s → (s ≡ If → ⊥) → length from ≤ n → Goes Statement from to → Beyond (read.inside plain from) to
+  other_goes : (s : Symbol) (from to : List Lexeme) → symbol_at from ≡ s → (s ≡ If → ⊥) → length from ≤ n → Goes Statement from to →
+      Beyond (read.inside plain from) to
   other_goes s from to at other fits g = same_beyond to (inside_other plain from (λ k. other (sym at ∙ k))) (statement_goes n from to fits g)
 
   inside_goes : (from to : List Lexeme) → length from ≤ n → Goes Statement from to → Beyond (read.inside plain from) to
@@ -53,7 +54,8 @@ module _ (n : ℕ) where
   begun_shorter (leaves b) = begins_shorter b
 
   inside_shrinks : Shrinks (read.inside plain)
-  inside_shrinks = shrinks_if (read.inside plain) (λ from to s is. let less = inside_shorter n from to s is in omega arith) (λ from to is. begun_shorter (inside_stuck n from to is))
+  inside_shrinks = shrinks_if (read.inside plain) (λ from to s is. let less = inside_shorter n from to s is in
+      omega arith) (λ from to is. begun_shorter (inside_stuck n from to is))
 
   insides_first : {from to : List Lexeme} → Goes Inside from to → symbol_at from ≡ Else → ⊥
   insides_first (by rule.statement_inside (within g)) at = first_not g Else refl at
@@ -62,29 +64,36 @@ module _ (n : ℕ) where
   insides_first (by rule.exit_inside (past d g)) at = exit_not (goes_whole Exit refl d) Else (λ e. cc) at
 
   abbrev all : ℕ → List RawStmt → Parser (List RawStmt)
-  all k found = many (sees CloseBrace) (read.inside plain) k found
+  all k found = many (sees_symbol CloseBrace) (read.inside plain) k found
 
-  first_goes : (k : ℕ) (found : List RawStmt) (from to : List Lexeme) → length from ≤ k → (symbol_at from ≡ CloseBrace → ⊥) → Beyond (read.inside plain from) to → Beyond (all k found from) to
-  first_goes k found from to enough other h = many_first (read.inside plain) inside_shrinks (sees CloseBrace) k found from to enough (sees_other CloseBrace from other) h
+  first_goes : (k : ℕ) (found : List RawStmt) (from to : List Lexeme) → length from ≤ k → (symbol_at from ≡ CloseBrace → ⊥) →
+      Beyond (read.inside plain from) to → Beyond (all k found from) to
+  first_goes k found from to enough other h =
+      many_first (read.inside plain) inside_shrinks (sees_symbol CloseBrace) k found from to enough (sees_other CloseBrace from other) h
 
-  turn : (k : ℕ) (found : List RawStmt) (from middle : List Lexeme) (s : RawStmt) → length from ≤ k → (symbol_at from ≡ CloseBrace → ⊥) → read.inside plain from ≡ Ok (s, middle) → all k found from ≡ all (k - 1) (found ++ s ∷ []) middle
+  turn : (k : ℕ) (found : List RawStmt) (from middle : List Lexeme) (s : RawStmt) → length from ≤ k → (symbol_at from ≡ CloseBrace → ⊥) →
+      read.inside plain from ≡ Ok (s, middle) → all k found from ≡ all (k - 1) (found ++ s ∷ []) middle
   turn k found from middle s enough other h =
       let less = inside_shorter n from middle s h in
-      many_turn (read.inside plain) (sees CloseBrace) k found from middle s (sees_other CloseBrace from other) h less enough
+      many_turn (read.inside plain) (sees_symbol CloseBrace) k found from middle s (sees_other CloseBrace from other) h less enough
 
   insides_go : {from to : List Lexeme} → Goes Inside from to → (k : ℕ) (found : List RawStmt) → length from ≤ n → length from ≤ k → Beyond (all k found from) to
-  insides_go (by {from} {to} rule.statement_inside (within g)) k found fits enough = first_goes k found from to enough (first_not g CloseBrace refl) (inside_goes from to fits g)
+  insides_go (by {from} {to} rule.statement_inside (within g)) k found fits enough =
+      first_goes k found from to enough (first_not g CloseBrace refl) (inside_goes from to fits g)
   insides_go (by {from} {to} rule.statement_inside (past {middle} d (within g))) k found fits enough =
       let less = shorter Statement _ _ refl d in
-      same_beyond to (turn k found from middle d.0 enough (begins_not d.1 CloseBrace refl) (reads_inside d.1 n fits (insides_first g))) (insides_go g (k - 1) (found ++ d.0 ∷ []) (omega arith) (omega arith))
-  insides_go (by {from} {to} rule.exit_inside (within g)) k found fits enough = first_goes k found from to enough (exit_not g CloseBrace (λ e. cc e)) (exit_goes from to fits g)
+      same_beyond to (turn k found from middle d.0 enough (begins_not d.1 CloseBrace refl) (reads_inside d.1 n fits (insides_first g)))
+      (insides_go g (k - 1) (found ++ d.0 ∷ []) (omega arith) (omega arith))
+  insides_go (by {from} {to} rule.exit_inside (within g)) k found fits enough =
+      first_goes k found from to enough (exit_not g CloseBrace (λ e. cc e)) (exit_goes from to fits g)
   insides_go (by {from} {to} rule.exit_inside (past {middle} d (within g))) k found fits enough =
       let less = shorter Exit _ _ refl d in
-      same_beyond to (turn k found from middle d.0 enough (exit_not (goes_whole Exit refl d) CloseBrace (λ e. cc)) (reads_exit plain d.1)) (insides_go g (k - 1) (found ++ d.0 ∷ []) (omega arith) (omega arith))
+      same_beyond to (turn k found from middle d.0 enough (exit_not (goes_whole Exit refl d) CloseBrace (λ e. cc)) (reads_exit plain d.1))
+      (insides_go g (k - 1) (found ++ d.0 ∷ []) (omega arith) (omega arith))
 
   insides : Inner (λ ts. all (length ts) [] ts) Inside n (Word CloseBrace ∷ [])
   insides = record {
-    shrinks = λ from. many_shrinks (read.inside plain) inside_shrinks (sees CloseBrace) (length from) [] from;
+    shrinks = λ from. many_shrinks (read.inside plain) inside_shrinks (sees_symbol CloseBrace) (length from) [] from;
     goes = λ from to fits g. insides_go g (length from) [] fits (omega arith);
     reads = λ from middle to fits d g. (d.0, reads_insides n d.1 fits (word_first g) [] (length from) (omega arith));
   }
@@ -105,7 +114,8 @@ module _ (n : ℕ) where
 
   repeated_read : Reading (read.repeated plain) n (Word While ∷ Of Condition ∷ Of Loop ∷ [])
   unfolding read.repeated
-  repeated_read = word_and While n _ _ (λ word_. part_and statements.condition Condition n _ (test n _) _ (λ cond. part_and _ Loop n _ (body _) _ (λ found. ends)))
+  repeated_read = word_and While n _ _ (λ word_. part_and statements.condition Condition n _ (test n _) _
+      (λ cond. part_and _ Loop n _ (body _) _ (λ found. ends)))
 
   counted_read : Reading (read.counted plain) n (Word For ∷ Of Head ∷ Of Loop ∷ [])
   unfolding read.counted
@@ -117,10 +127,14 @@ module _ (n : ℕ) where
 
   region_shrinks : Shrinks (read.region plain)
   unfolding read.region
-  region_shrinks from = region_by (sees For from) from
+  region_shrinks from = region_by (sees_symbol For from) from
 
   pub while_read : Reading (read.region plain) n (Word While ∷ Of Condition ∷ Of Loop ∷ [])
-  while_read = record { shrinks = region_shrinks; goes = λ from to fits g. same_beyond to (region_while n from (word_first g)) (repeated_read.goes from to fits g) }
+  while_read = record {
+    shrinks = region_shrinks;
+    goes = λ from to fits g. same_beyond to (region_while n from
+        (word_first g)) (repeated_read.goes from to fits g);
+  }
 
   pub for_read : Reading (read.region plain) n (Word For ∷ Of Head ∷ Of Loop ∷ [])
   for_read = record { shrinks = region_shrinks; goes = λ from to fits g. same_beyond to (region_for n from (word_first g)) (counted_read.goes from to fits g) }

@@ -1,5 +1,6 @@
 -- The counts over tokens, from a place on.
-use Rattle.std.proofs.Common.{◌≡◌, refl, ap, ap₂, ◌∙◌, sym, ℕ, ◌+◌, ◌-◌, ◌≤◌, ◌<◌, max, Bool, true, false, ◌&&◌, List, [], ◌∷◌, map, length, drop, get_or, count_by, if◌then◌else◌, drop-cons, add-one, arith}
+use Rattle.std.proofs.Common.{◌≡◌, refl, ap, ap₂, ◌∙◌, sym, ℕ, ◌+◌, ◌-◌, ◌≤◌, ◌<◌, max, Bool, true, false, ◌&&◌, List, [], ◌∷◌, map, length, drop, get_or}
+use Rattle.std.proofs.Common.{count_by, if◌then◌else◌, drop-cons, add-one, arith}
 use Rattle.std.proofs.lemmas.List.Sums.{sum_by-cons}
 use mir.Val.{bool_byte}
 use Rattle.std.proofs.lemmas.List.{drop_all}
@@ -7,7 +8,8 @@ use Rattle.dp_lex.specs.declared.Token.{Token}
 use Rattle.dp_lex.specs.Tokens.{lexeme}
 use Rattle.dp_tokens.specs.declared.symbol.Symbol.{Symbol}
 use Rattle.dp_tokens.specs.Symbols.{symbol}
-use Rattle.dp_parse.specs.Depth.{opens, closes, operates, separates, is_if, is_else, else_if, largest, fronts, before_first, pieces, open_after, begins_if, nesting, operators, operators_after, else_ifs}
+use Rattle.dp_parse.specs.Depth.{opens, closes_brace, operates, separates, is_if, is_else, else_if, largest, fronts, before_first, symbol_pieces, open_after}
+use Rattle.dp_parse.specs.Depth.{begins_if, nesting, operators, operators_after, else_ifs}
 
 abbrev pub symbols : List Token → List Symbol
 symbols ts = map symbol (map lexeme ts)
@@ -33,7 +35,7 @@ largest_map f h (x ∷ xs) = ap (max (f (h x))) (largest_map f h xs)
 -- ---- open braces
 
 abbrev open_with : ℕ → ℕ → List Symbol → ℕ
-open_with opened closed front = (opened + count_by opens front) - (closed + count_by closes front)
+open_with opened closed front = (opened + count_by opens front) - (closed + count_by closes_brace front)
 
 -- the most that is open, where so many braces were opened and closed before
 abbrev pub nesting_from : ℕ → ℕ → ℕ → List Symbol → ℕ
@@ -48,12 +50,14 @@ open_now opened closed [] = omega arith
 open_now opened closed (s ∷ ss) = omega arith
 
 pub nesting_next : (opened closed most : ℕ) (s : Symbol) (ss : List Symbol) → opened - closed ≤ most →
-    nesting_from opened closed most (s ∷ ss) ≡ nesting_from (opened + one (opens s)) (closed + one (closes s)) (max most ((opened + one (opens s)) - (closed + one (closes s)))) ss
+    nesting_from opened closed most (s ∷ ss) ≡ nesting_from (opened + one (opens s)) (closed + one (closes_brace s))
+    (max most ((opened + one (opens s)) - (closed + one (closes_brace s)))) ss
 nesting_next opened closed most s ss le =
-    let f = open_with opened closed in let g = open_with (opened + one (opens s)) (closed + one (closes s)) in
-    let step : (front : List Symbol) → f (s ∷ front) ≡ g front = λ front. let a = count_next opens s front in let b = count_next closes s front in omega arith in
+    let f = open_with opened closed in let g = open_with (opened + one (opens s)) (closed + one (closes_brace s)) in
+    let step : (front : List Symbol) → f (s ∷ front) ≡ g front = λ front. let a = count_next opens s front in
+    let b = count_next closes_brace s front in omega arith in
     let moved = largest_map f (λ (front : List Symbol). s ∷ front) (fronts ss) ∙ largest_same (λ front. f (s ∷ front)) g step (fronts ss) in
-    let now = open_now (opened + one (opens s)) (closed + one (closes s)) ss in
+    let now = open_now (opened + one (opens s)) (closed + one (closes_brace s)) ss in
     omega arith
 
 -- ---- operators
@@ -64,7 +68,7 @@ with_first here (n ∷ ns) = (here + n) ∷ ns
 
 -- the most operators, where so many stand before the first piece
 abbrev pub operators_from : ℕ → ℕ → List Symbol → ℕ
-operators_from here most ss = max most (largest (with_first here (map (count_by operates) (pieces ss))))
+operators_from here most ss = max most (largest (with_first here (map (count_by operates) (symbol_pieces ss))))
 
 first_zero : (ns : List ℕ) → largest (with_first 0 ns) ≡ largest ns
 first_zero [] = omega arith
@@ -72,11 +76,12 @@ first_zero (n ∷ ns) = omega arith
 
 pub operators_at : (ts : List Token) → operators (map lexeme ts) ≡ operators_from 0 0 (symbols ts)
 unfolding operators
-operators_at ts = let h = first_zero (map (count_by operates) (pieces (symbols ts))) in omega arith
+operators_at ts = let h = first_zero (map (count_by operates) (symbol_pieces (symbols ts))) in omega arith
 
 first_by : (here most : ℕ) (s : Symbol) (ps : List (List Symbol)) (b c : Bool) → separates s ≡ b → operates s ≡ c → here ≤ most →
     max most (largest (with_first here (map (count_by operates) (before_first b s ps))))
-    ≡ max (max most (if b then 0 else (if c then here + 1 else here))) (largest (with_first (if b then 0 else (if c then here + 1 else here)) (map (count_by operates) ps)))
+    ≡ max (max most (if b then 0 else (if c then here + 1 else here)))
+    (largest (with_first (if b then 0 else (if c then here + 1 else here)) (map (count_by operates) ps)))
 first_by here most s ps true c p q le = let h = first_zero (map (count_by operates) ps) in omega arith
 first_by here most s [] false true p q le = let h = count_next operates s [] in let e = ap one q in omega arith
 first_by here most s [] false false p q le = let h = count_next operates s [] in let e = ap one q in omega arith
@@ -85,7 +90,7 @@ first_by here most s (piece ∷ ps) false false p q le = let h = count_next oper
 
 pub operators_next : (here most : ℕ) (s : Symbol) (ss : List Symbol) → here ≤ most →
     operators_from here most (s ∷ ss) ≡ operators_from (operators_after here s) (max most (operators_after here s)) ss
-operators_next here most s ss le = first_by here most s (pieces ss) (separates s) (operates s) refl refl le
+operators_next here most s ss le = first_by here most s (symbol_pieces ss) (separates s) (operates s) refl refl le
 
 -- ---- `else` before `if`
 
@@ -122,7 +127,8 @@ operators_after-le here s = by_tests (separates s) (operates s)
     by_tests false true = omega arith
     by_tests false false = omega arith
 
-pub symbols_step : (ts : List Token) (i : ℕ) (s : Symbol) (d : Token) → i < length ts → s ≡ symbol (lexeme (get_or ts i d)) → symbols (drop i ts) ≡ s ∷ symbols (drop (i + 1) ts)
+pub symbols_step : (ts : List Token) (i : ℕ) (s : Symbol) (d : Token) → i < length ts → s ≡ symbol (lexeme (get_or ts i d)) →
+    symbols (drop i ts) ≡ s ∷ symbols (drop (i + 1) ts)
 symbols_step ts i s d within e = symbols_next ts i d within ∙ ap (λ (k : Symbol). k ∷ symbols (drop (i + 1) ts)) (sym e)
 
 pub symbols_over : (ts : List Token) (i : ℕ) → length ts ≤ i → symbols (drop i ts) ≡ []

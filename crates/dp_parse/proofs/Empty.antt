@@ -15,7 +15,8 @@ statement_empty zero = refl
 statement_empty (suc n) = refl
 
 pub inside_empty : (n : ℕ) → inside (statement n) [] ≡ Err []
-unfolding inside statement choice Rattle.dp_tokens.specs.Steps.sees Rattle.dp_tokens.specs.Steps.same_symbol Rattle.dp_tokens.specs.Symbols.symbol_at Rattle.dp_tokens.specs.Steps.expect
+unfolding inside statement choice Rattle.dp_tokens.specs.Steps.sees_symbol Rattle.dp_tokens.specs.Steps.same_symbol Rattle.dp_tokens.specs.Symbols.symbol_at
+    Rattle.dp_tokens.specs.Steps.expect
 inside_empty zero = refl
 inside_empty (suc n) = refl
 
@@ -24,5 +25,6 @@ unfolding param Rattle.dp_tokens.specs.Steps.expect
 param_empty = refl
 
 pub top_empty : top [] ≡ Err []
-unfolding top statement Rattle.dp_tokens.specs.Steps.sees Rattle.dp_tokens.specs.Steps.after Rattle.dp_tokens.specs.Symbols.symbol_at Rattle.dp_tokens.specs.Steps.same_symbol
+unfolding top statement Rattle.dp_tokens.specs.Steps.sees_symbol Rattle.dp_tokens.specs.Steps.after Rattle.dp_tokens.specs.Symbols.symbol_at
+    Rattle.dp_tokens.specs.Steps.same_symbol
 top_empty = refl

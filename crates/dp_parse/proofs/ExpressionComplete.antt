@@ -13,7 +13,7 @@ use Rattle.dp_tokens.specs.Symbols.{symbol, symbol_at, Is}
 use Rattle.dp_parse.specs.Levels.{operands, joining, prefixing}
 use Rattle.dp_tokens.specs.Leaves.{name_of, IsNumber}
 use Rattle.dp_parse.specs.Expressions.{DerivesExpr, operand, chain, prefix, number, scalar, element, parenthesized}
-use Rattle.dp_tokens.specs.Steps.{Outcome, Parser, pure, and_then, rest}
+use Rattle.dp_tokens.specs.Steps.{Outcome, Parser, pure, parse_then, rest}
 use Rattle.dp_parse.specs.steps.Operators.{join_at, prefix_at}
 use Rattle.dp_tokens.specs.Steps as step
 use Rattle.dp_parse.specs.steps.Operators as operators
@@ -23,7 +23,8 @@ use Rattle.dp_parse.proofs.LeafLemmas.{reads_name, reads_number}
 use Rattle.dp_parse.specs.Rules as rule
 use Rattle.dp_parse.proofs.Spans.{shorter}
 use Rattle.dp_parse.proofs.Going.{Goes, by, last_number, word_first, goes_whole}
-use Rattle.dp_parse.proofs.Levels.{rank, tighter, level_prefixed, level_chain, chain_end, chain_turn, Follows, joins, joins_not, prefixes, prefix_level, prefixes_not, joins_not_tight, follows_join, follows_any, follows_tighter}
+use Rattle.dp_parse.proofs.Levels.{rank, tighter, level_prefixed, level_chain, chain_end, chain_turn, Follows, joins, joins_not, prefixes, prefix_level}
+use Rattle.dp_parse.proofs.Levels.{prefixes_not, joins_not_tight, follows_join, follows_any, follows_tighter}
 
 -- what reads the operands of a level
 abbrev pub operand_by : ℕ → Option Level → Parser RawExpr
@@ -37,11 +38,14 @@ pub record Reached (n : ℕ) (l : Level) (from to : List Lexeme) (e : RawExpr) :
   pub is : read.expression (read.nested n) l from ≡ read.chain l (operand_by n (operands l)) turns e to
 
 -- where nothing of the level follows, it is read as a whole
-pub ended : {n : ℕ} {l : Level} {from to : List Lexeme} {e : RawExpr} → Reached n l from to e → join_at l (symbol_at to) ≡ None → read.expression (read.nested n) l from ≡ Ok (e, to)
+pub ended : {n : ℕ} {l : Level} {from to : List Lexeme} {e : RawExpr} → Reached n l from to e → join_at l (symbol_at to) ≡ None →
+    read.expression (read.nested n) l from ≡ Ok (e, to)
 ended {n} {l} {from} {to} {e} r none = r.is ∙ chain_end l (operand_by n (operands l)) r.turns e to none
 
-read_whole : (n : ℕ) (l : Level) (from to : List Lexeme) (e : RawExpr) → join_at l (symbol_at to) ≡ None → read.expression (read.nested n) l from ≡ Ok (e, to) → Reached n l from to e
-read_whole n l from to e none h = record { turns = length to; enough = omega arith; is = h ∙ sym (chain_end l (operand_by n (operands l)) (length to) e to none) }
+read_whole : (n : ℕ) (l : Level) (from to : List Lexeme) (e : RawExpr) → join_at l (symbol_at to) ≡ None → read.expression (read.nested n) l from ≡ Ok (e, to) →
+    Reached n l from to e
+read_whole n l from to e none h =
+    record { turns = length to; enough = omega arith; is = h ∙ sym (chain_end l (operand_by n (operands l)) (length to) e to none) }
 
 -- an expression one deeper
 pub nested_read : (n : ℕ) (l : Level) (from to : List Lexeme) (e : RawExpr) → length from ≤ n → length to < length from → join_at l (symbol_at to) ≡ None →
@@ -88,30 +92,35 @@ module _ (nested : Level → Parser RawExpr) where
   unfolding read.expression read.primary symbol_at
   named_read t to h = rw h (rw (reads_name t to h))
 
-  scalar_read : (t : Lexeme) (to : List Lexeme) → Is Name t → (symbol_at to ≡ OpenBracket → ⊥) → read.expression nested level.Primary (t ∷ to) ≡ Ok (tree.Scalar (name_of t), to)
+  scalar_read : (t : Lexeme) (to : List Lexeme) → Is Name t → (symbol_at to ≡ OpenBracket → ⊥) → read.expression nested level.Primary (t ∷ to) ≡ Ok
+      (tree.Scalar (name_of t), to)
   unfolding read.variable
   scalar_read t to h other = named_read t to h ∙ stays OpenBracket (read.variable_by nested (name_of t)) to other
 
-  pub element_read : (t opening closing : Lexeme) (from to : List Lexeme) (e : RawExpr) → Is Name t → Is OpenBracket opening → nested level.Or from ≡ Ok (e, closing ∷ to) → Is CloseBracket closing →
+  pub element_read : (t opening closing : Lexeme) (from to : List Lexeme) (e : RawExpr) → Is Name t → Is OpenBracket opening →
+      nested level.Or from ≡ Ok (e, closing ∷ to) → Is CloseBracket closing →
       read.expression nested level.Primary (t ∷ opening ∷ from) ≡ Ok (tree.Element (name_of t) e, to)
   unfolding read.variable
   element_read t opening closing from to e h o d c =
       named_read t (opening ∷ from) h ∙ eats OpenBracket (read.variable_by nested (name_of t)) opening from o
       ∙ rw d (rw (expects CloseBracket closing to c))
 
-  pub parenthesized_read : (opening closing : Lexeme) (from to : List Lexeme) (e : RawExpr) → Is OpenParen opening → nested level.Or from ≡ Ok (e, closing ∷ to) → Is CloseParen closing →
+  pub parenthesized_read : (opening closing : Lexeme) (from to : List Lexeme) (e : RawExpr) → Is OpenParen opening →
+      nested level.Or from ≡ Ok (e, closing ∷ to) → Is CloseParen closing →
       read.expression nested level.Primary (opening ∷ from) ≡ Ok (e, to)
   unfolding read.expression read.primary read.parenthesized symbol_at
   parenthesized_read opening closing from to e o d c = rw o (rw (expects OpenParen opening from o) (rw d (rw (expects CloseParen closing to c))))
 
-prefixed_read : (n : ℕ) (l : Level) (op : Lexeme) (is : UnOp) (from to : List Lexeme) (e : RawExpr) → prefixing (symbol op) ≡ Some (l, is) → read.nested n l from ≡ Ok (e, to) →
+prefixed_read : (n : ℕ) (l : Level) (op : Lexeme) (is : UnOp) (from to : List Lexeme) (e : RawExpr) → prefixing (symbol op) ≡ Some (l, is) →
+    read.nested n l from ≡ Ok (e, to) →
     read.expression (read.nested n) l (op ∷ from) ≡ Ok (tree.Unary is e, to)
 unfolding rest symbol_at
 prefixed_read n l op is from to e p h =
     level_prefixed (read.nested n) l level.Primary (ap operands (prefix_level l (symbol op) is p)) (op ∷ from) is (prefixes l (symbol op) is p)
-    ∙ ap (λ (o : Outcome RawExpr). and_then o (λ x. pure (tree.Unary is x))) h
+    ∙ ap (λ (o : Outcome RawExpr). parse_then o (λ x. pure (tree.Unary is x))) h
 
-pub reached : {l : Level} {from to : List Lexeme} {e : RawExpr} → DerivesExpr l from to e → (n : ℕ) → length from ≤ suc n → Follows l (symbol_at to) → Reached n l from to e
+pub reached : {l : Level} {from to : List Lexeme} {e : RawExpr} → DerivesExpr l from to e → (n : ℕ) → length from ≤ suc n → Follows l (symbol_at to) →
+    Reached n l from to e
 unfolding rest symbol_at
 reached (operand {l} {m} {from} {to} {e} o d) n fits f =
     let tight = tighter l m o in let none = joins_not l m (symbol_at to) f (omega arith) in
@@ -119,7 +128,8 @@ reached (operand {l} {m} {from} {to} {e} o d) n fits f =
     record {
       turns = length to;
       enough = omega arith;
-      is = level_chain (read.nested n) l m o from e to (unprefixed l m from to o (goes_whole (rule.Expression m) refl (_, d))) first ∙ ap (λ (p : Parser RawExpr). read.chain l p (length to) e to) (sym (ap (operand_by n) o));
+      is = level_chain (read.nested n) l m o from e to (unprefixed l m from to o (goes_whole (rule.Expression m) refl (_, d))) first
+          ∙ ap (λ (p : Parser RawExpr). read.chain l p (length to) e to) (sym (ap (operand_by n) o));
     }
 reached (chain {l} {m} {op} {join} {from} {middle} {to} {a} {b} j o d f) n fits follow =
     let tight = tighter l m o in let left = shorter (rule.Expression _) _ _ refl (_, d) in
@@ -130,7 +140,8 @@ reached (chain {l} {m} {op} {join} {from} {middle} {to} {a} {b} j o d f) n fits 
     record {
       turns = r.turns - 1;
       enough = omega arith;
-      is = r.is ∙ chain_turn l (operand_by n (operands l)) r.turns a b (op ∷ middle) to join (joins l (symbol op) join j) (ap (λ (p : Parser RawExpr). p middle) (ap (operand_by n) o) ∙ second) r.enough;
+      is = r.is ∙ chain_turn l (operand_by n (operands l)) r.turns a b (op ∷ middle) to join (joins l (symbol op) join j)
+          (ap (λ (p : Parser RawExpr). p middle) (ap (operand_by n) o) ∙ second) r.enough;
     }
 reached (prefix {l} {op} {is} {from} {to} {e} p d) n fits f =
     let some = shorter (rule.Expression _) _ _ refl (_, d) in let tight = ap rank (prefix_level l (symbol op) is p) in
@@ -138,22 +149,28 @@ reached (prefix {l} {op} {is} {from} {to} {e} p d) n fits f =
     read_whole n l (op ∷ from) to (tree.Unary is e) none
     (prefixed_read n l op is from to e p (nested_read n l from to e (omega arith) some none (λ k le. reached d k le f)))
 reached (number {t} {n = v} {to} h) n fits f =
-    read_whole n level.Primary (t ∷ to) to (tree.Number (pos v)) (joins_not_tight level.Primary (symbol_at to) (omega arith)) (number_read (read.nested n) t v to h)
+    read_whole n level.Primary (t ∷ to) to (tree.Number (pos v)) (joins_not_tight level.Primary (symbol_at to) (omega arith))
+    (number_read (read.nested n) t v to h)
 reached (scalar {name = t} {to} h) n fits f =
-    read_whole n level.Primary (t ∷ to) to (tree.Scalar (name_of t)) (joins_not_tight level.Primary (symbol_at to) (omega arith)) (scalar_read (read.nested n) t to h f.no_index)
+    read_whole n level.Primary (t ∷ to) to (tree.Scalar (name_of t)) (joins_not_tight level.Primary (symbol_at to) (omega arith))
+    (scalar_read (read.nested n) t to h f.no_index)
 reached (element {name = t} {opening} {closing} {from} {to} {e} h o d c) n fits f =
     let some = shorter (rule.Expression _) _ _ refl (_, d) in
     read_whole n level.Primary (t ∷ opening ∷ from) to (tree.Element (name_of t) e) (joins_not_tight level.Primary (symbol_at to) (omega arith))
     (element_read (read.nested n) t opening closing from to e h o
-    (nested_read n level.Or from (closing ∷ to) e (omega arith) some (closes CloseBracket closing to refl c) (λ k le. reached d k le (follows CloseBracket closing to refl (λ e. cc e) c))) c)
+    (nested_read n level.Or from (closing ∷ to) e (omega arith) some (closes CloseBracket closing to refl c)
+    (λ k le. reached d k le (follows CloseBracket closing to refl (λ e. cc e) c))) c)
 reached (parenthesized {opening} {closing} {from} {to} {e} o d c) n fits f =
     let some = shorter (rule.Expression _) _ _ refl (_, d) in
     read_whole n level.Primary (opening ∷ from) to e (joins_not_tight level.Primary (symbol_at to) (omega arith))
     (parenthesized_read (read.nested n) opening closing from to e o
-    (nested_read n level.Or from (closing ∷ to) e (omega arith) some (closes CloseParen closing to refl c) (λ k le. reached d k le (follows CloseParen closing to refl (λ e. cc e) c))) c)
+    (nested_read n level.Or from (closing ∷ to) e (omega arith) some (closes CloseParen closing to refl c)
+    (λ k le. reached d k le (follows CloseParen closing to refl (λ e. cc e) c))) c)
 
 -- an expression is read as a whole before a symbol that joins nothing and opens no index
-pub whole_read : (from to : List Lexeme) (e : RawExpr) → DerivesExpr level.Or from to e → joining (symbol_at to) ≡ None → (symbol_at to ≡ OpenBracket → ⊥) → read.whole from ≡ Ok (e, to)
+pub whole_read : (from to : List Lexeme) (e : RawExpr) → DerivesExpr level.Or from to e → joining (symbol_at to) ≡ None → (symbol_at to ≡ OpenBracket → ⊥) →
+    read.whole from ≡ Ok (e, to)
 unfolding read.whole join_at
 whole_read from to e d none other =
-    nested_read (length from) level.Or from to e (omega arith) (shorter (rule.Expression _) _ _ refl (_, d)) (ap (operators.own level.Or) none) (λ k le. reached d k le (follows_any level.Or (symbol_at to) none other))
+    nested_read (length from) level.Or from to e (omega arith) (shorter (rule.Expression _) _ _ refl (_, d)) (ap (operators.own level.Or) none)
+    (λ k le. reached d k le (follows_any level.Or (symbol_at to) none other))

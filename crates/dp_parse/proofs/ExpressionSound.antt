@@ -10,7 +10,7 @@ use Rattle.dp_parse.specs.declared.level.Level.{Level}
 use Rattle.dp_parse.specs.declared.level.Level.TheVariants as level
 use Rattle.dp_parse.specs.declared.level.Join.{Join}
 use Rattle.dp_tokens.specs.Symbols.{symbol, symbol_at, Is}
-use Rattle.dp_parse.specs.Levels.{operands, joining, prefixing, joined}
+use Rattle.dp_parse.specs.Levels.{operands, joining, prefixing, joined_trees}
 use Rattle.dp_tokens.specs.Leaves.{name_of}
 use Rattle.dp_parse.specs.Expressions.{DerivesExpr, operand, chain, prefix, number, scalar, element, parenthesized}
 use Rattle.dp_tokens.specs.Steps.{Parser, ◌>>=◌, pure, expect, rest}
@@ -52,7 +52,8 @@ module _ (nested : Level → Parser RawExpr) (sound : (l : Level) → Sound (nes
       let c = closed (nested level.Or) CloseParen (λ x. x) e o.middle to o.second in
       moved (DerivesExpr level.Primary) o.splits refl c.made (parenthesized o.is (sound level.Or o.middle (c.closing ∷ to) c.value c.first) c.is)
 
-  sound_number : (from to : List Lexeme) (e : RawExpr) → (numbers.number >>= (λ z. pure (tree.Number z))) from ≡ Ok (e, to) → DerivesExpr level.Primary from to e
+  sound_number : (from to : List Lexeme) (e : RawExpr) → (numbers.number >>= (λ z. pure (tree.Number z))) from ≡ Ok (e, to) →
+      DerivesExpr level.Primary from to e
   sound_number from to e h =
       let o = then_of (numbers.number from) (λ z. pure (tree.Number z)) e to h in
       let n = read_number from o.middle o.value o.first in
@@ -63,7 +64,8 @@ module _ (nested : Level → Parser RawExpr) (sound : (l : Level) → Sound (nes
   sound_named from to e h =
       let o = then_of (step.name from) (read.variable nested) e to h in
       let n = read_name from o.middle o.value o.first in
-      moved (DerivesExpr level.Primary) n.splits refl refl (sound_variable n.token o.middle to e n.is (ap (λ x. read.variable nested x o.middle) (sym n.called) ∙ o.second))
+      moved (DerivesExpr level.Primary) n.splits refl refl
+      (sound_variable n.token o.middle to e n.is (ap (λ x. read.variable nested x o.middle) (sym n.called) ∙ o.second))
 
   primary_at : (s : Symbol) (from to : List Lexeme) (e : RawExpr) → read.primary_by nested s from ≡ Ok (e, to) → DerivesExpr level.Primary from to e
   primary_at Number from to e h = sound_number from to e h
@@ -77,19 +79,23 @@ module _ (nested : Level → Parser RawExpr) (sound : (l : Level) → Sound (nes
   -- a chain of operands of the level m goes on
   module _ (l m : Level) (o : operands l ≡ Some m) (p : Parser RawExpr) (reads : Sound p (DerivesExpr m)) where
     abbrev Goes : (RawExpr → Parser RawExpr) → Type 0
-    Goes again = (from middle to : List Lexeme) (found e : RawExpr) → DerivesExpr l from middle found → again found middle ≡ Ok (e, to) → DerivesExpr l from to e
+    Goes again = (from middle to : List Lexeme) (found e : RawExpr) → DerivesExpr l from middle found → again found middle ≡ Ok (e, to) →
+        DerivesExpr l from to e
 
     ends : (from middle to : List Lexeme) (found e : RawExpr) → DerivesExpr l from middle found → pure found middle ≡ Ok (e, to) → DerivesExpr l from to e
-    ends from middle to found e d h = let parts = same_pair {a = found} {b = e} {x = middle} {y = to} h in moved (DerivesExpr l) refl (sym parts.1) (sym parts.0) d
+    ends from middle to found e d h = let parts = same_pair {a = found} {b = e} {x = middle} {y = to} h in
+        moved (DerivesExpr l) refl (sym parts.1) (sym parts.0) d
 
     sound_longer : (again : RawExpr → Parser RawExpr) → Goes again → (middle : List Lexeme) (j : Option Join) → join_at l (symbol_at middle) ≡ j →
-        (from to : List Lexeme) (found e : RawExpr) → DerivesExpr l from middle found → read.longer again p found j middle ≡ Ok (e, to) → DerivesExpr l from to e
+        (from to : List Lexeme) (found e : RawExpr) → DerivesExpr l from middle found → read.longer again p found j middle ≡ Ok (e, to) →
+        DerivesExpr l from to e
     unfolding join_at symbol_at rest
     sound_longer again goes middle None is from to found e d h = ends from middle to found e d h
     sound_longer again goes [] (Some join) is from to found e d h = absurd (cc)
     sound_longer again goes (op ∷ middle) (Some join) is from to found e d h =
-        let r = then_of (p middle) (λ right. again (joined join found right)) e to h in
-        goes from r.middle to (joined join found r.value) e (chain (own_is l (joining (symbol op)) join is) o d (reads middle r.middle r.value r.first)) r.second
+        let r = then_of (p middle) (λ right. again (joined_trees join found right)) e to h in
+        goes from r.middle to (joined_trees join found r.value) e (chain (own_is l (joining (symbol op)) join is) o d
+        (reads middle r.middle r.value r.first)) r.second
 
     sound_chain : (n : ℕ) → Goes (read.chain l p n)
     unfolding read.chain
@@ -97,7 +103,8 @@ module _ (nested : Level → Parser RawExpr) (sound : (l : Level) → Sound (nes
     sound_chain (suc n) from middle to found e d h =
         sound_longer (read.chain l p n) (sound_chain n) middle (join_at l (symbol_at middle)) refl from to found e d h
 
-    level_at : (from to : List Lexeme) (e : RawExpr) (s : Option UnOp) → prefix_at l (symbol_at from) ≡ s → read.level_by nested l p s from ≡ Ok (e, to) → DerivesExpr l from to e
+    level_at : (from to : List Lexeme) (e : RawExpr) (s : Option UnOp) → prefix_at l (symbol_at from) ≡ s → read.level_by nested l p s from ≡ Ok (e, to) →
+        DerivesExpr l from to e
     unfolding prefix_at symbol_at rest
     level_at from to e None is h =
         let r = then_of (p from) (λ first. λ ts. read.chain l p (length ts) first ts) e to h in

@@ -22,7 +22,8 @@ mutual
   spans_front : {n : Nonterminal} {from to : List Lexeme} → Spans n from to → (x : List Lexeme) → Back from x → length to ≤ length x → Begins n from x
   spans_front (by r s) x b le = begins.by r (parts_front s x b le)
 
-  parts_front : {parts : List Part} {from to : List Lexeme} → SpansParts parts from to → (x : List Lexeme) → Back from x → length to ≤ length x → BeginsParts parts from x
+  parts_front : {parts : List Part} {from to : List Lexeme} → SpansParts parts from to → (x : List Lexeme) → Back from x → length to ≤ length x →
+      BeginsParts parts from x
   parts_front (end {to}) x b le = let same = back_same b le in rw same begins.none
   parts_front (token a s) x here le = begins.none
   parts_front (token a s) x (further b) le = begins.token a (parts_front s x b le)
@@ -35,7 +36,8 @@ mutual
   front (begins.nothing {to}) x b le = let same = back_same b le in rw same begins.nothing
   front (begins.by r s) x b le = begins.by r (front_parts s x b le)
 
-  front_parts : {parts : List Part} {from to : List Lexeme} → BeginsParts parts from to → (x : List Lexeme) → Back from x → length to ≤ length x → BeginsParts parts from x
+  front_parts : {parts : List Part} {from to : List Lexeme} → BeginsParts parts from to → (x : List Lexeme) → Back from x → length to ≤ length x →
+      BeginsParts parts from x
   front_parts (begins.none {to}) x b le = let same = back_same b le in rw same begins.none
   front_parts (begins.within s) x b le = begins.within (front s x b le)
   front_parts (begins.token a s) x here le = begins.none

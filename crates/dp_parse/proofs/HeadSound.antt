@@ -12,7 +12,7 @@ use Rattle.dp_tokens.specs.Symbols.{Is}
 use Rattle.dp_tokens.specs.Leaves.{name_of}
 use Rattle.dp_parse.specs.Expressions.{DerivesExpr}
 use Rattle.dp_parse.specs.Heads.{DerivesSimple, scalar, element, DerivesFirst, declared, simple, DerivesHead, head}
-use Rattle.dp_tokens.specs.Steps.{◌>>=◌, pure, expect, sees}
+use Rattle.dp_tokens.specs.Steps.{◌>>=◌, pure, expect, sees_symbol}
 use Rattle.dp_tokens.specs.Steps as step
 use Rattle.dp_parse.specs.steps.Expressions as expr
 use Rattle.dp_parse.specs.steps.Heads as read
@@ -46,11 +46,14 @@ sound_declare from to s h =
     moved DerivesFirst (o.splits ∙ taken o.value (n.splits ∙ taken n.token r.splits)) (sym parts.1)
     (sym parts.0 ∙ ap (λ (name : TreeName). tree.Declare o.value.line name q.value) n.called) (declared o.is n.is r.is r.value)
 
-sound_store : (name : Lexeme) (from to : List Lexeme) (s : RawStmt) → Is Name name → read.store (name_of name) from ≡ Ok (s, to) → DerivesSimple (name ∷ from) to s
+sound_store : (name : Lexeme) (from to : List Lexeme) (s : RawStmt) → Is Name name → read.store (name_of name) from ≡ Ok (s, to) →
+    DerivesSimple (name ∷ from) to s
 unfolding read.store
 sound_store name from to s is h =
-    let o = takes OpenBracket from (λ _. expr.whole >>= (λ index. expect CloseBracket >>= (λ _. read.value >>= (λ value. pure (tree.Store (name_of name) index value))))) s to h in
-    let p = then_of (expr.whole o.middle) (λ index. expect CloseBracket >>= (λ _. read.value >>= (λ value. pure (tree.Store (name_of name) index value)))) s to o.second in
+    let o = takes OpenBracket from
+    (λ _. expr.whole >>= (λ index. expect CloseBracket >>= (λ _. read.value >>= (λ value. pure (tree.Store (name_of name) index value))))) s to h in
+    let p = then_of (expr.whole o.middle) (λ index. expect CloseBracket >>= (λ _. read.value >>= (λ value. pure (tree.Store (name_of name) index value)))) s to
+    o.second in
     let q = takes CloseBracket p.middle (λ _. read.value >>= (λ value. pure (tree.Store (name_of name) p.value value))) s to p.second in
     let v = then_of (read.value q.middle) (λ value. pure (tree.Store (name_of name) p.value value)) s to q.second in
     let r = read_value q.middle v.middle v.value v.first in
@@ -58,26 +61,30 @@ sound_store name from to s is h =
     let index = moved (DerivesExpr Or) refl (sym (q.splits ∙ taken q.value r.splits)) refl (sound_whole o.middle p.middle p.value p.first) in
     moved DerivesSimple (taken name o.splits) (sym parts.1) (sym parts.0) (element is o.is index q.is r.is r.value)
 
-sound_scalar : (name : Lexeme) (from to : List Lexeme) (s : RawStmt) → Is Name name → (read.value >>= (λ x. pure (tree.Assign (name_of name) x))) from ≡ Ok (s, to) → DerivesSimple (name ∷ from) to s
+sound_scalar : (name : Lexeme) (from to : List Lexeme) (s : RawStmt) → Is Name name → (read.value >>= (λ x. pure (tree.Assign (name_of name) x))) from ≡ Ok
+    (s, to) → DerivesSimple (name ∷ from) to s
 sound_scalar name from to s is h =
     let o = then_of (read.value from) (λ x. pure (tree.Assign (name_of name) x)) s to h in
     let r = read_value from o.middle o.value o.first in
     let parts = same_pair {a = tree.Assign (name_of name) o.value} {b = s} {x = o.middle} {y = to} o.second in
     moved DerivesSimple (taken name r.splits) (sym parts.1) (sym parts.0) (scalar is r.is r.value)
 
-assign_at : (name : Lexeme) (b : Bool) (from to : List Lexeme) (s : RawStmt) → Is Name name → read.assign_by (name_of name) b from ≡ Ok (s, to) → DerivesSimple (name ∷ from) to s
+assign_at : (name : Lexeme) (b : Bool) (from to : List Lexeme) (s : RawStmt) → Is Name name → read.assign_by (name_of name) b from ≡ Ok (s, to) →
+    DerivesSimple (name ∷ from) to s
 assign_at name true from to s is h = sound_store name from to s is h
 assign_at name false from to s is h = sound_scalar name from to s is h
 
-pub sound_assign : (name : Lexeme) (from to : List Lexeme) (s : RawStmt) → Is Name name → read.assign (name_of name) from ≡ Ok (s, to) → DerivesSimple (name ∷ from) to s
+pub sound_assign : (name : Lexeme) (from to : List Lexeme) (s : RawStmt) → Is Name name → read.assign (name_of name) from ≡ Ok (s, to) →
+    DerivesSimple (name ∷ from) to s
 unfolding read.assign
-sound_assign name from to s is h = assign_at name (sees OpenBracket from) from to s is h
+sound_assign name from to s is h = assign_at name (sees_symbol OpenBracket from) from to s is h
 
 pub sound_simple : Sound read.simple DerivesSimple
 unfolding read.simple
 sound_simple from to s h =
     let o = then_of (step.name from) read.assign s to h in let n = read_name from o.middle o.value o.first in
-    moved DerivesSimple n.splits refl refl (sound_assign n.token o.middle to s n.is (ap (λ (name : TreeName). read.assign name o.middle) (sym n.called) ∙ o.second))
+    moved DerivesSimple n.splits refl refl (sound_assign n.token o.middle to s n.is (ap (λ (name : TreeName). read.assign name o.middle)
+    (sym n.called) ∙ o.second))
 
 first_at : (b : Bool) (from to : List Lexeme) (s : RawStmt) → read.first_by b from ≡ Ok (s, to) → DerivesFirst from to s
 first_at true from to s h = sound_declare from to s h
@@ -85,7 +92,7 @@ first_at false from to s h = simple (sound_simple from to s h)
 
 pub sound_first : Sound read.first DerivesFirst
 unfolding read.first
-sound_first from to s h = first_at (sees Int from) from to s h
+sound_first from to s h = first_at (sees_symbol Int from) from to s h
 
 -- the head of a `for`
 pub record Heads (from to : List Lexeme) (h : Header) : Type 0 where
@@ -99,19 +106,32 @@ abbrev pub as_head : RawStmt → RawExpr → RawStmt → Header
 as_head first cond step = record { first = first ∷ []; cond = cond; step = step ∷ [] }
 
 -- its parts along the places where they split
-head_by : (from : List Lexeme) (opening : Lexeme) (a b : List Lexeme) (end : Lexeme) (c d : List Lexeme) (behind : Lexeme) (x y : List Lexeme) (closing : Lexeme) (z to : List Lexeme) (first : RawStmt) (cond : RawExpr) (step : RawStmt) →
-    from ≡ opening ∷ a → b ≡ end ∷ c → d ≡ behind ∷ x → y ≡ closing ∷ z → z ≡ to → Is OpenParen opening → Is Semicolon end → Is Semicolon behind → Is CloseParen closing →
+head_by : (from : List Lexeme) (opening : Lexeme) (a b : List Lexeme) (end : Lexeme) (c d : List Lexeme) (behind : Lexeme) (x y : List Lexeme)
+    (closing : Lexeme) (z to : List Lexeme) (first : RawStmt) (cond : RawExpr) (step : RawStmt) →
+    from ≡ opening ∷ a → b ≡ end ∷ c → d ≡ behind ∷ x → y ≡ closing ∷ z → z ≡ to → Is OpenParen opening → Is Semicolon end → Is Semicolon behind →
+    Is CloseParen closing →
     DerivesFirst a b first → DerivesExpr Or c d cond → DerivesSimple x y step → DerivesHead from to first cond step
 head_by from opening a b end c d behind x y closing z to first cond step p q r s t o e f g i j k =
-    rw p (head o (moved DerivesFirst refl (sym q) refl i) e (moved (DerivesExpr Or) refl (sym r) refl j) f (moved DerivesSimple refl (sym (s ∙ taken closing t)) refl k) g)
+    rw p (head o (moved DerivesFirst refl (sym q) refl i) e (moved (DerivesExpr Or) refl (sym r) refl j) f
+    (moved DerivesSimple refl (sym (s ∙ taken closing t)) refl k) g)
 
 pub read_head : (from to : List Lexeme) (h : Header) → read.head from ≡ Ok (h, to) → Heads from to h
 unfolding read.head
 read_head from to h e =
-    let o = takes OpenParen from (λ _. read.first >>= (λ first. expect Semicolon >>= (λ _. expr.whole >>= (λ cond. expect Semicolon >>= (λ _. read.simple >>= (λ step. expect CloseParen >>= (λ _. pure (as_head first cond step)))))))) h to e in
-    let p = then_of (read.first o.middle) (λ first. expect Semicolon >>= (λ _. expr.whole >>= (λ cond. expect Semicolon >>= (λ _. read.simple >>= (λ step. expect CloseParen >>= (λ _. pure (as_head first cond step))))))) h to o.second in
-    let q = takes Semicolon p.middle (λ _. expr.whole >>= (λ cond. expect Semicolon >>= (λ _. read.simple >>= (λ step. expect CloseParen >>= (λ _. pure (as_head p.value cond step)))))) h to p.second in
-    let v = then_of (expr.whole q.middle) (λ cond. expect Semicolon >>= (λ _. read.simple >>= (λ step. expect CloseParen >>= (λ _. pure (as_head p.value cond step))))) h to q.second in
+    let o = takes OpenParen from
+    (λ _. read.first >>=
+    (λ first. expect Semicolon >>=
+    (λ _. expr.whole >>= (λ cond. expect Semicolon >>= (λ _. read.simple >>= (λ step. expect CloseParen >>= (λ _. pure (as_head first cond step)))))))) h to e
+    in
+    let p = then_of (read.first o.middle)
+    (λ first. expect Semicolon >>=
+    (λ _. expr.whole >>= (λ cond. expect Semicolon >>= (λ _. read.simple >>= (λ step. expect CloseParen >>= (λ _. pure (as_head first cond step))))))) h to
+    o.second in
+    let q = takes Semicolon p.middle
+    (λ _. expr.whole >>= (λ cond. expect Semicolon >>= (λ _. read.simple >>= (λ step. expect CloseParen >>= (λ _. pure (as_head p.value cond step)))))) h to
+    p.second in
+    let v = then_of (expr.whole q.middle)
+    (λ cond. expect Semicolon >>= (λ _. read.simple >>= (λ step. expect CloseParen >>= (λ _. pure (as_head p.value cond step))))) h to q.second in
     let w = takes Semicolon v.middle (λ _. read.simple >>= (λ step. expect CloseParen >>= (λ _. pure (as_head p.value v.value step)))) h to v.second in
     let y = then_of (read.simple w.middle) (λ step. expect CloseParen >>= (λ _. pure (as_head p.value v.value step))) h to w.second in
     let z = takes CloseParen y.middle (λ _. pure (as_head p.value v.value y.value)) h to y.second in
@@ -120,7 +140,8 @@ read_head from to h e =
       first = p.value;
       cond = v.value;
       step = y.value;
-      derives = head_by from o.value o.middle p.middle q.value q.middle v.middle w.value w.middle y.middle z.value z.middle to p.value v.value y.value o.splits q.splits w.splits z.splits parts.1 o.is q.is w.is z.is
+      derives = head_by from o.value o.middle p.middle q.value q.middle v.middle w.value w.middle y.middle z.value z.middle to p.value v.value y.value o.splits
+          q.splits w.splits z.splits parts.1 o.is q.is w.is z.is
           (sound_first o.middle p.middle p.value p.first) (sound_whole q.middle v.middle v.value v.first) (sound_simple w.middle y.middle y.value y.first);
       made = sym parts.0;
     }

@@ -5,7 +5,7 @@ use Rattle.dp_tree.specs.declared.raw.Name.{Name as TreeName}
 use Rattle.dp_tokens.specs.declared.symbol.Symbol.TheVariants.{Int, Name, Mark, Return, CloseBrace}
 use Rattle.dp_tokens.specs.Symbols.{Is}
 use Rattle.dp_tokens.specs.Leaves.{name_of}
-use Rattle.dp_tokens.specs.Steps.{name, sees}
+use Rattle.dp_tokens.specs.Steps.{name, sees_symbol}
 use Rattle.dp_parse.specs.steps.Programs.{param, top, top_by, ends}
 use Rattle.dp_parse.specs.steps.Statements.{statement}
 use Rattle.dp_parse.proofs.StepLemmas.{takes, Ate, passed, stayed, ate, seen_some}
@@ -35,8 +35,10 @@ pub param_shorter : (from to : List Lexeme) (n : TreeName) → param from ≡ Ok
 param_shorter from to n e = let r = read_param from to n e in let same = ap length r.splits in omega arith
 
 marked_shorter : (n : ℕ) (from to : List Lexeme) (s : RawStmt) → Marked (statement n) (sound_statement n) from to s → length to < length from
-marked_shorter n from to s (by_while word inside middle cond body w splits d b made) = let a = shorter rule.Condition _ _ refl (_, d) in let c = shorter rule.Loop _ _ refl (_, b) in let same = ap length splits in omega arith
-marked_shorter n from to s (by_for word inside middle first step cond body w splits d b made) = let a = shorter rule.Head _ _ refl (_, _, _, d) in let c = shorter rule.Loop _ _ refl (_, b) in let same = ap length splits in omega arith
+marked_shorter n from to s (by_while word inside middle cond body w splits d b made) =
+    let a = shorter rule.Condition _ _ refl (_, d) in let c = shorter rule.Loop _ _ refl (_, b) in let same = ap length splits in omega arith
+marked_shorter n from to s (by_for word inside middle first step cond body w splits d b made) = let a = shorter rule.Head _ _ refl (_, _, _, d) in
+    let c = shorter rule.Loop _ _ refl (_, b) in let same = ap length splits in omega arith
 
 top_at : (n : ℕ) (from to : List Lexeme) (s : RawStmt) → Ate Mark (top_by n) from s to → length to < length from
 top_at n from to s (passed t middle is splits e) =
@@ -49,11 +51,11 @@ pub top_shorter : (from to : List Lexeme) (s : RawStmt) → top from ≡ Ok (s, 
 unfolding top
 top_shorter from to s e = top_at (length from) from to s (ate Mark (top_by (length from)) s to from (λ k. cc) e)
 
-ends_by : (ts : List Lexeme) (a b : Bool) → sees Return ts ≡ a → sees CloseBrace ts ≡ b → (a || b) ≡ true → 0 < length ts
+ends_by : (ts : List Lexeme) (a b : Bool) → sees_symbol Return ts ≡ a → sees_symbol CloseBrace ts ≡ b → (a || b) ≡ true → 0 < length ts
 ends_by ts true b p q h = seen_some Return ts (λ e. cc) p
 ends_by ts false true p q h = seen_some CloseBrace ts (λ e. cc) q
 ends_by ts false false p q h = absurd (cc)
 
 pub ends_some : (ts : List Lexeme) → ends ts ≡ true → 0 < length ts
 unfolding ends
-ends_some ts h = ends_by ts (sees Return ts) (sees CloseBrace ts) refl refl h
+ends_some ts h = ends_by ts (sees_symbol Return ts) (sees_symbol CloseBrace ts) refl refl h

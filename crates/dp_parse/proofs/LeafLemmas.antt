@@ -12,7 +12,7 @@ use Rattle.dp_tokens.specs.declared.symbol.Symbol.TheVariants.{Name, Number}
 use Rattle.dp_tokens.specs.Symbols.{symbol, Is}
 use Rattle.dp_tokens.specs.Leaves.{name_of, IsNumber}
 use Rattle.dp_tokens.specs.Steps.{name, rest, same_symbol}
-use Rattle.dp_tokens.specs.Numbers.{number, number_by, number_value, next_number, value_by, zero_by, sees_zero}
+use Rattle.dp_tokens.specs.Numbers.{number, number_by, number_value, number_in_front, value_by, zero_by, sees_zero}
 use Rattle.dp_parse.proofs.StepLemmas.{same_pair, takes, same_is, is_same, expects}
 
 -- the name that was read
@@ -68,12 +68,12 @@ next_is t ts z true same e =
 next_is t ts z false same e = absurd (cc)
 
 -- the number that comes next is a token's
-pub next_number_is : (ts : List Lexeme) (z : ℤ) → next_number ts ≡ Some z → Numbered ts (rest ts) z
-unfolding next_number rest
+pub next_number_is : (ts : List Lexeme) (z : ℤ) → number_in_front ts ≡ Some z → Numbered ts (rest ts) z
+unfolding number_in_front rest
 next_number_is [] z e = absurd (cc)
 next_number_is (t ∷ ts) z e = next_is t ts z (same_symbol (symbol t) Number) refl e
 
-numbered_by : (from to : List Lexeme) (z : ℤ) (o : Option ℤ) → next_number from ≡ o → number_by o from ≡ Ok (z, to) → Numbered from to z
+numbered_by : (from to : List Lexeme) (z : ℤ) (o : Option ℤ) → number_in_front from ≡ o → number_by o from ≡ Ok (z, to) → Numbered from to z
 numbered_by from to z None is e = absurd (cc)
 numbered_by from to z (Some y) is e =
     let parts = same_pair {a = y} {b = z} {x = rest from} {y = to} e in
@@ -82,15 +82,15 @@ numbered_by from to z (Some y) is e =
 pub read_number : (from to : List Lexeme) (z : ℤ) → number from ≡ Ok (z, to) → Numbered from to z
 unfolding number
 read_number from to z e =
-    numbered_by from to z (next_number from) refl e
+    numbered_by from to z (number_in_front from) refl e
 
 values : (digits : List ℕ) (n : ℕ) → AllPass is_ascii_digit digits → digits_value 10 digits ≡ n → n ≤ 9223372036854775807 → number_value digits ≡ Some (pos n)
 unfolding number_value
 values digits n all e fits =
     rw (list_all-from_AllPass is_ascii_digit digits all, e, le-leb n 9223372036854775807 fits) refl
 
-pub next_number_of : (t : Lexeme) (n : ℕ) (to : List Lexeme) → IsNumber t n → next_number (t ∷ to) ≡ Some (pos n)
-unfolding next_number
+pub next_number_of : (t : Lexeme) (n : ℕ) (to : List Lexeme) → IsNumber t n → number_in_front (t ∷ to) ≡ Some (pos n)
+unfolding number_in_front
 next_number_of t n to h =
     ap (λ (b : Bool). value_by b t.text) (is_same (symbol t) Number h.number) ∙ values t.text n h.digits h.value h.fits
 

@@ -1,5 +1,6 @@
 -- The table of levels; and a level of an expression as it is read: its operands, its operators, and the turns of a chain.
-use Rattle.std.proofs.Common.{◌≡◌, refl, ap, ◌∙◌, ℕ, zero, suc, ◌+◌, ◌-◌, ◌<◌, ◌≤◌, List, [], ◌∷◌, length, Option, Some, None, arith, Ok, Err, sym, Bool, if◌then◌else◌}
+use Rattle.std.proofs.Common.{◌≡◌, refl, ap, ◌∙◌, ℕ, zero, suc, ◌+◌, ◌-◌, ◌<◌, ◌≤◌, List, [], ◌∷◌, length, Option, Some, None, arith, Ok, Err, sym, Bool}
+use Rattle.std.proofs.Common.{if◌then◌else◌}
 use Rattle.std.proofs.lemmas.Option.{same_Some}
 use Rattle.dp_base.specs.declared.UnOp.{UnOp}
 use Rattle.dp_lex.specs.Token.{Lexeme}
@@ -9,8 +10,8 @@ use Rattle.dp_parse.specs.declared.level.Level.{Level}
 use Rattle.dp_parse.specs.declared.level.Level.TheVariants as level
 use Rattle.dp_parse.specs.declared.level.Join.{Join}
 use Rattle.dp_tokens.specs.Symbols.{symbol_at}
-use Rattle.dp_parse.specs.Levels.{operands, joined, joining, prefixing}
-use Rattle.dp_tokens.specs.Steps.{Outcome, Parser, ◌>>=◌, and_then, pure, rest}
+use Rattle.dp_parse.specs.Levels.{operands, joined_trees, joining, prefixing}
+use Rattle.dp_tokens.specs.Steps.{Outcome, Parser, ◌>>=◌, parse_then, pure, rest}
 use Rattle.dp_parse.specs.steps.Operators.{join_at, prefix_at, own}
 use Rattle.dp_parse.specs.steps.Expressions as read
 use Rattle.dp_tokens.specs.declared.symbol.Symbol.{Symbol}
@@ -62,16 +63,18 @@ module _ (nested : Level → Parser RawExpr) where
     unfolding read.level_of
     level_by op e = ap (λ (p : Parser RawExpr). p ts) (level_opens l m o) ∙ ap (λ (s : Option UnOp). read.level_by nested l (read.expression nested m) s ts) e
 
-    pub level_prefixed : (op : UnOp) → prefix_at l (symbol_at ts) ≡ Some op → read.expression nested l ts ≡ (nested l >>= (λ x. pure (tree.Unary op x))) (rest ts)
+    pub level_prefixed : (op : UnOp) → prefix_at l (symbol_at ts) ≡ Some op →
+        read.expression nested l ts ≡ (nested l >>= (λ x. pure (tree.Unary op x))) (rest ts)
     level_prefixed op e = level_by (Some op) e
 
     pub level_chain : (first : RawExpr) (middle : List Lexeme) → prefix_at l (symbol_at ts) ≡ None → read.expression nested m ts ≡ Ok (first, middle) →
         read.expression nested l ts ≡ read.chain l (read.expression nested m) (length middle) first middle
     level_chain first middle e h =
-        level_by None e ∙ ap (λ (o : Outcome RawExpr). and_then o (λ first. λ ts. read.chain l (read.expression nested m) (length ts) first ts)) h
+        level_by None e ∙ ap (λ (o : Outcome RawExpr). parse_then o (λ first. λ ts. read.chain l (read.expression nested m) (length ts) first ts)) h
 
     pub level_none : (left : List Lexeme) → prefix_at l (symbol_at ts) ≡ None → read.expression nested m ts ≡ Err left → read.expression nested l ts ≡ Err left
-    level_none left e h = level_by None e ∙ ap (λ (o : Outcome RawExpr). and_then o (λ first. λ ts. read.chain l (read.expression nested m) (length ts) first ts)) h
+    level_none left e h =
+        level_by None e ∙ ap (λ (o : Outcome RawExpr). parse_then o (λ first. λ ts. read.chain l (read.expression nested m) (length ts) first ts)) h
 
 module _ (l : Level) (operand : Parser RawExpr) where
   pub joins_some : (ts : List Lexeme) (join : Join) → join_at l (symbol_at ts) ≡ Some join → 0 < length ts
@@ -85,22 +88,24 @@ module _ (l : Level) (operand : Parser RawExpr) where
   chain_end (suc k) found ts e = ap (λ (j : Option Join). read.longer (read.chain l operand k) operand found j ts) e
 
   pub chain_by : (k : ℕ) (found : RawExpr) (ts : List Lexeme) (join : Join) → join_at l (symbol_at ts) ≡ Some join → length ts ≤ k →
-      read.chain l operand k found ts ≡ (operand >>= (λ right. read.chain l operand (k - 1) (joined join found right))) (rest ts)
+      read.chain l operand k found ts ≡ (operand >>= (λ right. read.chain l operand (k - 1) (joined_trees join found right))) (rest ts)
   unfolding read.chain
   chain_by zero found ts join e fits = let some : 0 < length ts = joins_some ts join e in absurd (omega arith)
   chain_by (suc k) found ts join e fits =
       let same : suc k - 1 ≡ k = omega arith in
       rw (same) (ap (λ (j : Option Join). read.longer (read.chain l operand k) operand found j ts) e)
 
-  pub chain_turn : (k : ℕ) (found right : RawExpr) (ts middle : List Lexeme) (join : Join) → join_at l (symbol_at ts) ≡ Some join → operand (rest ts) ≡ Ok (right, middle) → length ts ≤ k →
-      read.chain l operand k found ts ≡ read.chain l operand (k - 1) (joined join found right) middle
+  pub chain_turn : (k : ℕ) (found right : RawExpr) (ts middle : List Lexeme) (join : Join) → join_at l (symbol_at ts) ≡ Some join →
+      operand (rest ts) ≡ Ok (right, middle) → length ts ≤ k →
+      read.chain l operand k found ts ≡ read.chain l operand (k - 1) (joined_trees join found right) middle
   chain_turn k found right ts middle join e h fits =
-      chain_by k found ts join e fits ∙ ap (λ (o : Outcome RawExpr). and_then o (λ right. read.chain l operand (k - 1) (joined join found right))) h
+      chain_by k found ts join e fits ∙ ap (λ (o : Outcome RawExpr). parse_then o (λ right. read.chain l operand (k - 1) (joined_trees join found right))) h
 
-  pub chain_none : (k : ℕ) (found : RawExpr) (ts left : List Lexeme) (join : Join) → join_at l (symbol_at ts) ≡ Some join → operand (rest ts) ≡ Err left → length ts ≤ k →
+  pub chain_none : (k : ℕ) (found : RawExpr) (ts left : List Lexeme) (join : Join) → join_at l (symbol_at ts) ≡ Some join →
+      operand (rest ts) ≡ Err left → length ts ≤ k →
       read.chain l operand k found ts ≡ Err left
   chain_none k found ts left join e h fits =
-      chain_by k found ts join e fits ∙ ap (λ (o : Outcome RawExpr). and_then o (λ right. read.chain l operand (k - 1) (joined join found right))) h
+      chain_by k found ts join e fits ∙ ap (λ (o : Outcome RawExpr). parse_then o (λ right. read.chain l operand (k - 1) (joined_trees join found right))) h
 
 -- the symbol joins nothing tighter than the level, and opens no index
 pub record Follows (l : Level) (s : Symbol) : Type 0 where
@@ -178,7 +183,8 @@ follows_join l s join e = record {
 
 -- what joins nothing and opens no index may stand after any operand
 pub follows_any : (l : Level) (s : Symbol) → joining s ≡ None → (s ≡ symbol.OpenBracket → ⊥) → Follows l s
-follows_any l s none f = record { no_index = f; loose = λ m join e. let clash : ◌≡◌ {A = Option (Level × Join)} None (Some (m, join)) = sym none ∙ e in absurd (cc clash) }
+follows_any l s none f =
+    record { no_index = f; loose = λ m join e. let clash : ◌≡◌ {A = Option (Level × Join)} None (Some (m, join)) = sym none ∙ e in absurd (cc clash) }
 
 pub follows_tighter : (l m : Level) (s : Symbol) → rank m ≤ rank l → Follows l s → Follows m s
 follows_tighter l m s le f = record { no_index = f.no_index; loose = λ n join e. let a = f.loose n join e in omega arith }

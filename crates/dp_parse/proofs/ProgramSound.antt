@@ -26,19 +26,22 @@ use Rattle.dp_parse.proofs.ItemSound.{zero_is, sound_variable, sound_function}
 
 -- ---- `main`
 
-marked : (n : ℕ) (mark : Lexeme) (from middle to : List Lexeme) (s : RawStmt) (others : List RawStmt) → Is Mark mark → Marked (statements.statement n) (sound_statement n) from middle s → DerivesTops middle to others →
+marked : (n : ℕ) (mark : Lexeme) (from middle to : List Lexeme) (s : RawStmt) (others : List RawStmt) → Is Mark mark →
+    Marked (statements.statement n) (sound_statement n) from middle s → DerivesTops middle to others →
     DerivesTops (mark ∷ from) to (s ∷ others)
 marked n mark from middle to s others m (by_while word inside inner cond body w splits d b made) ds =
     moved DerivesTops (taken mark splits) refl (ap (λ (x : RawStmt). x ∷ others) made) (programs.region m w d b ds)
 marked n mark from middle to s others m (by_for word inside inner first step cond body w splits d b made) ds =
     moved DerivesTops (taken mark splits) refl (ap (λ (x : RawStmt). x ∷ others) made) (programs.for_region m w d b ds)
 
-top_at : (n : ℕ) (from middle to : List Lexeme) (s : RawStmt) (others : List RawStmt) → Ate Mark (read.top_by n) from s middle → DerivesTops middle to others → DerivesTops from to (s ∷ others)
+top_at : (n : ℕ) (from middle to : List Lexeme) (s : RawStmt) (others : List RawStmt) → Ate Mark (read.top_by n) from s middle → DerivesTops middle to others →
+    DerivesTops from to (s ∷ others)
 top_at n from middle to s others (passed t left is splits e) ds =
     moved DerivesTops splits refl refl (marked n t left middle to s others is (read_region (statements.statement n) (sound_statement n) left middle s e) ds)
 top_at n from middle to s others (stayed other e) ds = programs.statement (sound_statement n from middle s e) ds
 
-pub sound_top : (from middle to : List Lexeme) (s : RawStmt) (others : List RawStmt) → read.top from ≡ Ok (s, middle) → DerivesTops middle to others → DerivesTops from to (s ∷ others)
+pub sound_top : (from middle to : List Lexeme) (s : RawStmt) (others : List RawStmt) → read.top from ≡ Ok (s, middle) → DerivesTops middle to others →
+    DerivesTops from to (s ∷ others)
 unfolding read.top
 sound_top from middle to s others h ds = top_at (length from) from middle to s others (ate Mark (read.top_by (length from)) s middle from (λ k. cc) h) ds
 
@@ -92,7 +95,12 @@ read_end from to u h =
     let p = takes CloseBrace o.middle (λ _. pure tt) u to o.second in
     let parts = same_pair {a = tt} {b = u} {x = p.middle} {y = to} p.second in
     let all : o.middle ≡ p.value ∷ to = p.splits ∙ taken p.value parts.1 in
-    record { closing = p.value; is = p.is; returns = rw all at (returned_ate from o.middle o.value (ate Return read.returned_by o.value o.middle from (λ k. cc) o.first)) }
+    record {
+      closing = p.value;
+      is = p.is;
+      returns = rw all at (returned_ate from o.middle o.value (ate Return read.returned_by o.value o.middle from
+          (λ k. cc) o.first));
+    }
 
 -- `main` from its opening brace on
 record Inside (from to : List Lexeme) (body : List RawStmt) : Type 0 where
@@ -111,7 +119,8 @@ inside = expect CloseParen >>= (λ _. expect OpenBrace >>= (λ _. (λ ts. many r
 
 read_inside : (from to : List Lexeme) (body : List RawStmt) → inside from ≡ Ok (body, to) → Inside from to body
 read_inside from to body h =
-    let o = takes CloseParen from (λ _. expect OpenBrace >>= (λ _. (λ ts. many read.ends read.top (length ts) [] ts) >>= (λ body. read.end >>= (λ _. pure body)))) body to h in
+    let o = takes CloseParen from
+    (λ _. expect OpenBrace >>= (λ _. (λ ts. many read.ends read.top (length ts) [] ts) >>= (λ body. read.end >>= (λ _. pure body)))) body to h in
     let p = takes OpenBrace o.middle (λ _. (λ ts. many read.ends read.top (length ts) [] ts) >>= (λ body. read.end >>= (λ _. pure body))) body to o.second in
     let q = then_of (many read.ends read.top (length p.middle) [] p.middle) (λ body. read.end >>= (λ _. pure body)) body to p.second in
     let m = many_tops (length p.middle) p.middle q.middle [] q.value q.first in
@@ -130,19 +139,23 @@ read_inside from to body h =
       ended = rw parts.1 at e;
     }
 
-main_ate : (int name opening : Lexeme) (from to : List Lexeme) (body : List RawStmt) → Is Int int → Is Main name → Is OpenParen opening → Ate Void (λ _. inside) from body to → DerivesMain (int ∷ name ∷ opening ∷ from) to body
+main_ate : (int name opening : Lexeme) (from to : List Lexeme) (body : List RawStmt) → Is Int int → Is Main name → Is OpenParen opening →
+    Ate Void (λ _. inside) from body to → DerivesMain (int ∷ name ∷ opening ∷ from) to body
 main_ate int name opening from to body i m o (passed t left is splits e) =
     let r = read_inside left to body e in
-    moved DerivesMain (taken int (taken name (taken opening (splits ∙ taken t r.splits)))) refl refl (programs.main_void i m o is r.is_paren r.is_brace r.tops r.ended.returns r.ended.is)
+    moved DerivesMain (taken int (taken name (taken opening (splits ∙ taken t r.splits)))) refl refl (programs.main_void i m o is r.is_paren r.is_brace r.tops
+    r.ended.returns r.ended.is)
 main_ate int name opening from to body i m o (stayed other e) =
     let r = read_inside from to body e in
     moved DerivesMain (taken int (taken name (taken opening r.splits))) refl refl (programs.main i m o r.is_paren r.is_brace r.tops r.ended.returns r.ended.is)
 
-sound_main : (int name : Lexeme) (from to : List Lexeme) (body : List RawStmt) → Is Int int → Is Main name → read.main_part from ≡ Ok (body, to) → DerivesMain (int ∷ name ∷ from) to body
+sound_main : (int name : Lexeme) (from to : List Lexeme) (body : List RawStmt) → Is Int int → Is Main name → read.main_part from ≡ Ok (body, to) →
+    DerivesMain (int ∷ name ∷ from) to body
 unfolding read.main_part
 sound_main int name from to body i m h =
     let o = takes OpenParen from (λ _. eat Void >>= (λ _. inside)) body to h in
-    moved DerivesMain (taken int (taken name o.splits)) refl refl (main_ate int name o.value o.middle to body i m o.is (ate Void (λ _. inside) body to o.middle (λ k. cc) o.second))
+    moved DerivesMain (taken int (taken name o.splits)) refl refl (main_ate int name o.value o.middle to body i m o.is
+    (ate Void (λ _. inside) body to o.middle (λ k. cc) o.second))
 
 -- ---- parts of a program
 
@@ -188,7 +201,8 @@ record Rest (from to : List Lexeme) (found : List RawItem) (p : RawProgram) : Ty
 abbrev pub whole : List RawItem → List RawStmt → RawProgram
 whole items body = record { items = items; main = body }
 
-finished_at : (found : List RawItem) (body : List RawStmt) (from middle to : List Lexeme) (p : RawProgram) → DerivesMain from middle body → read.finished found body middle ≡ Ok (p, to) → Rest from to found p
+finished_at : (found : List RawItem) (body : List RawStmt) (from middle to : List Lexeme) (p : RawProgram) → DerivesMain from middle body →
+    read.finished found body middle ≡ Ok (p, to) → Rest from to found p
 finished_at found body from [] to p d h =
     let parts = same_pair {a = whole found body} {b = p} {x = []} {y = to} h in
     record {
@@ -201,14 +215,25 @@ finished_at found body from [] to p d h =
     }
 finished_at found body from (t ∷ middle) to p d h = absurd (cc)
 
-part_at : (again : List RawItem → Parser RawProgram) (goes : (from to : List Lexeme) (found : List RawItem) (p : RawProgram) → again found from ≡ Ok (p, to) → Rest from to found p)
-    (from middle to : List Lexeme) (found : List RawItem) (part : Part) (p : RawProgram) → DerivesPart from middle part → read.program_by again found part middle ≡ Ok (p, to) → Rest from to found p
+part_at : (again : List RawItem → Parser RawProgram)
+    (goes : (from to : List Lexeme) (found : List RawItem) (p : RawProgram) → again found from ≡ Ok (p, to) → Rest from to found p)
+    (from middle to : List Lexeme) (found : List RawItem) (part : Part) (p : RawProgram) → DerivesPart from middle part →
+    read.program_by again found part middle ≡ Ok (p, to) → Rest from to found p
 part_at again goes from middle to found (Item i) p d h =
     let r = goes middle to (found ++ i ∷ []) p h in
-    record { middle = r.middle; items = i ∷ r.items; all = r.all ∙ append_assoc found (i ∷ []) r.items; derives = programs.more d r.derives; main = r.main; over = r.over }
+    record {
+      middle = r.middle;
+      items = i ∷ r.items;
+      all = r.all ∙ append_assoc found (i
+          ∷ []) r.items;
+      derives = programs.more d r.derives;
+      main = r.main;
+      over = r.over;
+    }
 part_at again goes from middle to found (Body body) p d h = finished_at found body from middle to p d h
 
-sound_program_from : (n : ℕ) (from to : List Lexeme) (found : List RawItem) (p : RawProgram) → read.program_from n found from ≡ Ok (p, to) → Rest from to found p
+sound_program_from : (n : ℕ) (from to : List Lexeme) (found : List RawItem) (p : RawProgram) → read.program_from n found from ≡ Ok (p, to) →
+    Rest from to found p
 unfolding read.program_from
 sound_program_from zero from to found p h = absurd (cc)
 sound_program_from (suc n) from to found p h =

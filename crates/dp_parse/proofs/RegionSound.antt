@@ -11,7 +11,7 @@ use Rattle.dp_parse.specs.Heads.{DerivesHead}
 use Rattle.dp_parse.specs.Statements.{DerivesCondition, DerivesStatement, choice}
 use Rattle.dp_parse.specs.Regions.{DerivesExit, bare, braced, DerivesInside, DerivesLoop, loop}
 use Rattle.dp_parse.specs.Regions as regions
-use Rattle.dp_tokens.specs.Steps.{Parser, ◌>>=◌, pure, expect, sees, many}
+use Rattle.dp_tokens.specs.Steps.{Parser, ◌>>=◌, pure, expect, sees_symbol, many}
 use Rattle.dp_parse.specs.steps.Heads as heads
 use Rattle.dp_parse.specs.steps.Statements as statements
 use Rattle.dp_parse.specs.steps.Regions as read
@@ -47,18 +47,21 @@ read_bare line cond from to s h =
       made = sym parts.0;
     }
 
-sound_bare : (word : Lexeme) (from middle to : List Lexeme) (cond : RawExpr) (s : RawStmt) → Is If word → DerivesCondition from middle cond → read.bare word.line cond middle ≡ Ok (s, to) → DerivesExit (word ∷ from) to s
+sound_bare : (word : Lexeme) (from middle to : List Lexeme) (cond : RawExpr) (s : RawStmt) → Is If word → DerivesCondition from middle cond →
+    read.bare word.line cond middle ≡ Ok (s, to) → DerivesExit (word ∷ from) to s
 sound_bare word from middle to cond s is d h =
     let l = read_bare word.line cond middle to s h in
     moved DerivesExit refl refl l.made (bare is (moved DerivesCondition refl (sym l.splits) refl d) l.is l.ends)
 
-sound_braced : (word : Lexeme) (from middle to : List Lexeme) (cond : RawExpr) (s : RawStmt) → Is If word → DerivesCondition from middle cond → read.braced word.line cond middle ≡ Ok (s, to) → DerivesExit (word ∷ from) to s
+sound_braced : (word : Lexeme) (from middle to : List Lexeme) (cond : RawExpr) (s : RawStmt) → Is If word → DerivesCondition from middle cond →
+    read.braced word.line cond middle ≡ Ok (s, to) → DerivesExit (word ∷ from) to s
 unfolding read.braced
 sound_braced word from middle to cond s is d h =
     let o = takes OpenBrace middle (λ _. read.bare word.line cond >>= (λ s. expect CloseBrace >>= (λ _. pure s))) s to h in
     let c = closed (read.bare word.line cond) CloseBrace (λ s. s) s o.middle to o.second in
     let l = read_bare word.line cond o.middle (c.closing ∷ to) c.value c.first in
-    moved DerivesExit refl refl (c.made ∙ l.made) (braced is (moved DerivesCondition refl (sym (o.splits ∙ taken o.value l.splits)) refl d) o.is l.is l.ends c.is)
+    moved DerivesExit refl refl (c.made ∙ l.made) (braced is (moved DerivesCondition refl (sym (o.splits ∙ taken o.value l.splits)) refl d)
+    o.is l.is l.ends c.is)
 
 -- a statement of a region's body
 pub data Inside (from to : List Lexeme) (s : RawStmt) : Type 0 where
@@ -66,23 +69,28 @@ pub data Inside (from to : List Lexeme) (s : RawStmt) : Type 0 where
   leaving : DerivesExit from to s → Inside from to s
 
 module _ (statement : Parser RawStmt) (sound : Sound statement DerivesStatement) where
-  sound_branches : (word : Lexeme) (from middle to : List Lexeme) (cond : RawExpr) (s : RawStmt) → Is If word → DerivesCondition from middle cond → read.branches statement word.line cond middle ≡ Ok (s, to) → DerivesStatement (word ∷ from) to s
+  sound_branches : (word : Lexeme) (from middle to : List Lexeme) (cond : RawExpr) (s : RawStmt) → Is If word → DerivesCondition from middle cond →
+      read.branches statement word.line cond middle ≡ Ok (s, to) → DerivesStatement (word ∷ from) to s
   unfolding read.branches
   sound_branches word from middle to cond s is d h =
-      let q = then_of (statements.block statement middle) (λ then_part. statements.otherwise statement >>= (λ else_part. pure (tree.If word.line cond then_part else_part))) s to h in
+      let q = then_of (statements.block statement middle) (λ then_part. statements.otherwise statement >>=
+      (λ else_part. pure (tree.If word.line cond then_part else_part))) s to h in
       let u = then_of (statements.otherwise statement q.middle) (λ else_part. pure (tree.If word.line cond q.value else_part)) s to q.second in
       let parts = same_pair {a = tree.If word.line cond q.value u.value} {b = s} {x = u.middle} {y = to} u.second in
       moved DerivesStatement refl (sym parts.1) (sym parts.0)
-      (choice (chosen statement sound word from middle q.middle u.middle cond q.value u.value is d (sound_block statement sound middle q.middle q.value q.first) (read_otherwise statement sound q.middle u.middle u.value u.first)))
+      (choice (chosen statement sound word from middle q.middle u.middle cond q.value u.value is d (sound_block statement sound middle q.middle q.value q.first)
+      (read_otherwise statement sound q.middle u.middle u.value u.first)))
 
-  tested_at : (word : Lexeme) (from middle to : List Lexeme) (cond : RawExpr) (s : RawStmt) → Is If word → DerivesCondition from middle cond → (a b : Bool) → read.tested_by statement word.line cond a b middle ≡ Ok (s, to) → Inside (word ∷ from) to s
+  tested_at : (word : Lexeme) (from middle to : List Lexeme) (cond : RawExpr) (s : RawStmt) → Is If word → DerivesCondition from middle cond → (a b : Bool) →
+      read.tested_by statement word.line cond a b middle ≡ Ok (s, to) → Inside (word ∷ from) to s
   tested_at word from middle to cond s is d true b h = leaving (sound_bare word from middle to cond s is d h)
   tested_at word from middle to cond s is d false true h = leaving (sound_braced word from middle to cond s is d h)
   tested_at word from middle to cond s is d false false h = plain (sound_branches word from middle to cond s is d h)
 
-  sound_tested : (word : Lexeme) (from middle to : List Lexeme) (cond : RawExpr) (s : RawStmt) → Is If word → DerivesCondition from middle cond → read.tested statement word.line cond middle ≡ Ok (s, to) → Inside (word ∷ from) to s
+  sound_tested : (word : Lexeme) (from middle to : List Lexeme) (cond : RawExpr) (s : RawStmt) → Is If word → DerivesCondition from middle cond →
+      read.tested statement word.line cond middle ≡ Ok (s, to) → Inside (word ∷ from) to s
   unfolding read.tested
-  sound_tested word from middle to cond s is d h = tested_at word from middle to cond s is d (sees Break middle) (read.leads_out middle) h
+  sound_tested word from middle to cond s is d h = tested_at word from middle to cond s is d (sees_symbol Break middle) (read.leads_out middle) h
 
   sound_branch : (from to : List Lexeme) (s : RawStmt) → read.branch statement from ≡ Ok (s, to) → Inside from to s
   unfolding read.branch
@@ -97,39 +105,47 @@ module _ (statement : Parser RawStmt) (sound : Sound statement DerivesStatement)
 
   pub sound_inside : (from to : List Lexeme) (s : RawStmt) → read.inside statement from ≡ Ok (s, to) → Inside from to s
   unfolding read.inside
-  sound_inside from to s h = inside_at (sees If from) from to s h
+  sound_inside from to s h = inside_at (sees_symbol If from) from to s h
 
-  one_more : (from middle to : List Lexeme) (s : RawStmt) (rest : List RawStmt) → Inside from middle s → DerivesInside middle to rest → DerivesInside from to (s ∷ rest)
+  one_more : (from middle to : List Lexeme) (s : RawStmt) (rest : List RawStmt) → Inside from middle s → DerivesInside middle to rest →
+      DerivesInside from to (s ∷ rest)
   one_more from middle to s rest (plain d) ds = regions.statement d ds
   one_more from middle to s rest (leaving d) ds = regions.exit d ds
 
-  pub many_inside : (n : ℕ) (from to : List Lexeme) (found out : List RawStmt) → many (sees CloseBrace) (read.inside statement) n found from ≡ Ok (out, to) →
+  pub many_inside : (n : ℕ) (from to : List Lexeme) (found out : List RawStmt) → many (sees_symbol CloseBrace) (read.inside statement) n found
+      from ≡ Ok (out, to) →
       (body : List RawStmt) × (out ≡ found ++ body) × DerivesInside from to body
-  many_inside = many_sound (read.inside statement) DerivesInside (sees CloseBrace) (λ to. regions.none) (λ from middle to s rest e ds. one_more from middle to s rest (sound_inside from middle s e) ds)
+  many_inside = many_sound (read.inside statement) DerivesInside (sees_symbol CloseBrace) (λ to. regions.none)
+      (λ from middle to s rest e ds. one_more from middle to s rest (sound_inside from middle s e) ds)
 
   pub sound_body : Sound (read.body statement) DerivesLoop
   unfolding read.body
   sound_body from to body h =
-      let o = takes OpenBrace from (λ _. (λ ts. many (sees CloseBrace) (read.inside statement) (length ts) [] ts) >>= (λ body. expect CloseBrace >>= (λ _. pure body))) body to h in
-      let c = closed (λ ts. many (sees CloseBrace) (read.inside statement) (length ts) [] ts) CloseBrace (λ x. x) body o.middle to o.second in
+      let o = takes OpenBrace from (λ _. (λ ts. many (sees_symbol CloseBrace) (read.inside statement) (length ts) [] ts) >>=
+      (λ body. expect CloseBrace >>= (λ _. pure body))) body to h in
+      let c = closed (λ ts. many (sees_symbol CloseBrace) (read.inside statement) (length ts) [] ts) CloseBrace (λ x. x) body o.middle to o.second in
       let m = many_inside (length o.middle) o.middle (c.closing ∷ to) [] c.value c.first in
       moved DerivesLoop o.splits refl (c.made ∙ m.1) (loop o.is m.2 c.is)
 
   -- a region, by its word
   pub data Marked (from to : List Lexeme) (s : RawStmt) : Type 0 where
-    by_while : (word : Lexeme) (inside middle : List Lexeme) (cond : RawExpr) (body : List RawStmt) → Is While word → from ≡ word ∷ inside → DerivesCondition inside middle cond → DerivesLoop middle to body →
+    by_while : (word : Lexeme) (inside middle : List Lexeme) (cond : RawExpr) (body : List RawStmt) → Is While word → from ≡ word ∷ inside →
+        DerivesCondition inside middle cond → DerivesLoop middle to body →
         s ≡ tree.While word.line true cond body → Marked from to s
-    by_for : (word : Lexeme) (inside middle : List Lexeme) (first step : RawStmt) (cond : RawExpr) (body : List RawStmt) → Is For word → from ≡ word ∷ inside → DerivesHead inside middle first cond step → DerivesLoop middle to body →
+    by_for : (word : Lexeme) (inside middle : List Lexeme) (first step : RawStmt) (cond : RawExpr) (body : List RawStmt) → Is For word → from ≡ word ∷ inside →
+        DerivesHead inside middle first cond step → DerivesLoop middle to body →
         s ≡ tree.For word.line true (first ∷ []) cond (step ∷ []) body → Marked from to s
 
   read_repeated : (from to : List Lexeme) (s : RawStmt) → read.repeated statement from ≡ Ok (s, to) → Marked from to s
   unfolding read.repeated
   read_repeated from to s h =
-      let o = takes While from (λ word. statements.condition >>= (λ cond. read.body statement >>= (λ body. pure (tree.While word.line true cond body)))) s to h in
+      let o = takes While from (λ word. statements.condition >>= (λ cond. read.body statement >>= (λ body. pure (tree.While word.line true cond body)))) s to h
+      in
       let p = then_of (statements.condition o.middle) (λ cond. read.body statement >>= (λ body. pure (tree.While o.value.line true cond body))) s to o.second in
       let q = then_of (read.body statement p.middle) (λ body. pure (tree.While o.value.line true p.value body)) s to p.second in
       let parts = same_pair {a = tree.While o.value.line true p.value q.value} {b = s} {x = q.middle} {y = to} q.second in
-      by_while o.value o.middle p.middle p.value q.value o.is o.splits (sound_condition o.middle p.middle p.value p.first) (moved DerivesLoop refl (sym parts.1) refl (sound_body p.middle q.middle q.value q.first)) (sym parts.0)
+      by_while o.value o.middle p.middle p.value q.value o.is o.splits (sound_condition o.middle p.middle p.value p.first)
+      (moved DerivesLoop refl (sym parts.1) refl (sound_body p.middle q.middle q.value q.first)) (sym parts.0)
 
   abbrev for_of : ℕ → Header → List RawStmt → RawStmt
   for_of line h body = tree.For line true h.first h.cond h.step body
@@ -142,7 +158,8 @@ module _ (statement : Parser RawStmt) (sound : Sound statement DerivesStatement)
       let k = read_head o.middle p.middle p.value p.first in
       let q = then_of (read.body statement p.middle) (λ body. pure (for_of o.value.line p.value body)) s to p.second in
       let parts = same_pair {a = for_of o.value.line p.value q.value} {b = s} {x = q.middle} {y = to} q.second in
-      by_for o.value o.middle p.middle k.first k.step k.cond q.value o.is o.splits k.derives (moved DerivesLoop refl (sym parts.1) refl (sound_body p.middle q.middle q.value q.first))
+      by_for o.value o.middle p.middle k.first k.step k.cond q.value o.is o.splits k.derives
+      (moved DerivesLoop refl (sym parts.1) refl (sound_body p.middle q.middle q.value q.first))
       (sym parts.0 ∙ ap (λ (head : Header). for_of o.value.line head q.value) k.made)
 
   region_at : (b : Bool) (from to : List Lexeme) (s : RawStmt) → read.region_by statement b from ≡ Ok (s, to) → Marked from to s
@@ -151,8 +168,12 @@ module _ (statement : Parser RawStmt) (sound : Sound statement DerivesStatement)
 
   pub read_region : (from to : List Lexeme) (s : RawStmt) → read.region statement from ≡ Ok (s, to) → Marked from to s
   unfolding read.region
-  read_region from to s h = region_at (sees For from) from to s h
+  read_region from to s h = region_at (sees_symbol For from) from to s h
 
 pub inside_shorter : (n : ℕ) (from to : List Lexeme) (s : RawStmt) → read.inside (statements.statement n) from ≡ Ok (s, to) → length to < length from
 inside_shorter n from to s h =
-    elim (sound_inside (statements.statement n) (sound_statement n) from to s h) [ plain d ↦ shorter rule.Statement _ _ refl (_, d) | leaving d ↦ shorter rule.Exit _ _ refl (_, d) ]
+    elim (sound_inside (statements.statement n) (sound_statement n) from to s h) [
+      | plain d ↦ shorter rule.Statement _ _ refl (_, d)
+      | leaving d ↦
+          shorter rule.Exit _ _ refl (_, d)
+    ]

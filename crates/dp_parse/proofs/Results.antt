@@ -19,17 +19,19 @@ use Rattle.dp_parse.specs.declared.fail.ParseFail.TheVariants.{Lex, TooDeep, Ref
 use Rattle.dp_tokens.specs.declared.fail.PartFail.{PartFail}
 use Rattle.dp_tokens.specs.declared.fail.PartFail.TheVariants as part
 use Rattle.dp_parse.specs.Depth.{depth_fault}
-use Rattle.dp_tokens.specs.Steps.{Reads}
+use Rattle.dp_tokens.specs.Steps.{ReadsPart}
 use Rattle.dp_parse.proofs.ProgramSound.{sound_program}
 use Rattle.dp_parse.proofs.ProgramComplete.{reads_program}
 
-not_begun : (tokens left : List Lexeme) (token : ℕ) → read.program tokens ≡ Err left → token ≡ length tokens - length left → token < length tokens → Begins Program tokens (drop (token + 1) tokens) → ⊥
+not_begun : (tokens left : List Lexeme) (token : ℕ) → read.program tokens ≡ Err left → token ≡ length tokens - length left → token < length tokens →
+    Begins Program tokens (drop (token + 1) tokens) → ⊥
 not_begun tokens left token e same less b =
     let h : length left ≤ length (drop (token + 1) tokens) = rw e at (program_beyond tokens (drop (token + 1) tokens) b) in
     let k = length-drop (token + 1) tokens in let s = begins_shorter (program_stuck tokens left e) in
     omega arith
 
-begun : (tokens left : List Lexeme) (token : ℕ) → read.program tokens ≡ Err left → token ≡ length tokens - length left → (k : ℕ) → k ≤ token → Begins Program tokens (drop k tokens)
+begun : (tokens left : List Lexeme) (token : ℕ) → read.program tokens ≡ Err left → token ≡ length tokens - length left → (k : ℕ) → k ≤ token →
+    Begins Program tokens (drop k tokens)
 begun tokens left token e same k le =
     let stuck = program_stuck tokens left e in let s = begins_shorter stuck in let d = length-drop k tokens in
     front stuck (drop k tokens) (back_drop k tokens) (omega arith)
@@ -41,9 +43,11 @@ leaves_at tokens left n m all rest e = record {
   leaves = not_begun tokens left (n - m) e (omega arith);
 }
 
-pub gives : (tokens left : List Lexeme) (n m : ℕ) (r : Result RawProgram PartFail) → n ≡ length tokens → m ≡ length left → depth_fault tokens ≡ None → Reads (read.program tokens) r left → Gives tokens (outcome_of n m r)
+pub gives : (tokens left : List Lexeme) (n m : ℕ) (r : Result RawProgram PartFail) → n ≡ length tokens → m ≡ length left → depth_fault tokens ≡ None →
+    ReadsPart (read.program tokens) r left → Gives tokens (outcome_of n m r)
 gives tokens left n m (Ok program) all rest shallow h = (shallow, sound_program tokens left program h)
-gives tokens left n m (Err part.Refused) all rest shallow h = (shallow, (λ program d. let clash = sym (reads_program tokens program d) ∙ h refl in cc clash), leaves_at tokens left n m all rest (h refl))
+gives tokens left n m (Err part.Refused) all rest shallow h =
+    (shallow, (λ program d. let clash = sym (reads_program tokens program d) ∙ h refl in cc clash), leaves_at tokens left n m all rest (h refl))
 gives tokens left n m (Err part.NoMemory) all rest shallow h = tt
 
 pub parses : (text : Text) (tokens : List Lexeme) (r : Result RawProgram ParseFail) → Tokens text tokens → Gives tokens r → Parses text r

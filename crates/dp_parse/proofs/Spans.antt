@@ -18,7 +18,8 @@ use Rattle.dp_parse.specs.Regions.{DerivesExit, DerivesInside, DerivesLoop}
 use Rattle.dp_parse.specs.Regions as region
 use Rattle.dp_parse.specs.Programs.{DerivesNames, DerivesParams, DerivesItem, DerivesItems, DerivesTops, DerivesReturn, DerivesMain}
 use Rattle.dp_parse.specs.Programs as program
-use Rattle.dp_parse.specs.Rules.{Nonterminal, Expression, Expressions, Arguments, Condition, Simple, First, Head, Statement, Choice, Block, Statements, Exit, Inside, Loop, Names, Params, Item, Items, Tops, Ending, Body, Program, Part, Number, Length, Zero, Of, Rule}
+use Rattle.dp_parse.specs.Rules.{Nonterminal, Expression, Expressions, Arguments, Condition, Simple, First, Head, Statement, Choice, Block, Statements, Exit}
+use Rattle.dp_parse.specs.Rules.{Inside, Loop, Names, Params, Item, Items, Tops, Ending, Body, Program, Part, Number, Length, Zero, Of, Rule}
 use Rattle.dp_parse.specs.Begins.{Allows, Derived}
 use Rattle.dp_parse.specs.Rules as rule
 
@@ -59,11 +60,13 @@ mutual
   pub data SpansParts : List Part → List Lexeme → List Lexeme → Type 0 where
     end : {to : List Lexeme} → SpansParts [] to to
     token : {p : Part} {parts : List Part} {t : Lexeme} {from to : List Lexeme} → Allows p t → SpansParts parts from to → SpansParts (p ∷ parts) (t ∷ from) to
-    part : {n : Nonterminal} {parts : List Part} {from middle to : List Lexeme} → Derived n from middle → Spans n from middle → SpansParts parts middle to → SpansParts (Of n ∷ parts) from to
+    part : {n : Nonterminal} {parts : List Part} {from middle to : List Lexeme} → Derived n from middle → Spans n from middle → SpansParts parts middle to →
+        SpansParts (Of n ∷ parts) from to
 
 expr : {l : Level} {from to : List Lexeme} {e : RawExpr} → DerivesExpr l from to e → Spans (Expression l) from to
 expr (expression.operand {m} o d) = by (rule.operand o) (part {n = Expression m} (_, d) (expr d) end)
-expr (expression.chain {l} {m} {op} j o d f) = by (rule.chain {s = symbol op} j o) (part {n = Expression l} (_, d) (expr d) (token refl (part {n = Expression m} (_, f) (expr f) end)))
+expr (expression.chain {l} {m} {op} j o d f) =
+    by (rule.chain {s = symbol op} j o) (part {n = Expression l} (_, d) (expr d) (token refl (part {n = Expression m} (_, f) (expr f) end)))
 expr (expression.prefix {l} {op} p d) = by (rule.prefix {s = symbol op} p) (token refl (part {n = Expression l} (_, d) (expr d) end))
 expr (expression.number n) = by rule.number (token {p = Number} (_, n) end)
 expr (expression.scalar n) = by rule.scalar (token n end)
@@ -90,13 +93,15 @@ of_first (heads.declared i n q d) = by rule.declared (token i (token n (token q 
 of_first (heads.simple d) = by rule.simple (part (_, d) (of_simple d) end)
 
 of_head : {from to : List Lexeme} {first step : RawStmt} {e : RawExpr} → DerivesHead from to first e step → Spans Head from to
-of_head (heads.head o d e c f s k) = by rule.head (token o (part (_, d) (of_first d) (token e (part (_, c) (expr c) (token f (part (_, s) (of_simple s) (token k end)))))))
+of_head (heads.head o d e c f s k) =
+    by rule.head (token o (part (_, d) (of_first d) (token e (part (_, c) (expr c) (token f (part (_, s) (of_simple s) (token k end)))))))
 
 mutual
   of_statement : {from to : List Lexeme} {s : RawStmt} → DerivesStatement from to s → Spans Statement from to
   of_statement (statement.declare i n q d e) = by rule.declare (token i (token n (token q (part (_, d) (expr d) (token e end)))))
   of_statement (statement.assign n q d e) = by rule.assign (token n (token q (part (_, d) (expr d) (token e end))))
-  of_statement (statement.store n o d c q f e) = by rule.store (token n (token o (part (_, d) (expr d) (token c (token q (part (_, f) (expr f) (token e end)))))))
+  of_statement (statement.store n o d c q f e) =
+      by rule.store (token n (token o (part (_, d) (expr d) (token c (token q (part (_, f) (expr f) (token e end)))))))
   of_statement (statement.call n o d c e) = by rule.call (token n (token o (part (_, d) (arguments d) (token c (token e end)))))
   of_statement (statement.print w d e) = by rule.print (token w (part (_, d) (condition d) (token e end)))
   of_statement (statement.loop w d b) = by rule.loop (token w (part (_, d) (condition d) (part (_, b) (block b) end)))
@@ -150,7 +155,8 @@ items (program.more d ds) = by rule.more_items (part (_, d) (of_item d) (part (_
 tops : {from to : List Lexeme} {body : List RawStmt} → DerivesTops from to body → Spans Tops from to
 tops program.none = by rule.no_top end
 tops (program.statement d ds) = by rule.statement (part (_, d) (of_statement d) (part (_, ds) (tops ds) end))
-tops (program.for_region m w c b ds) = by rule.for_region (token m (token w (part (_, _, _, c) (of_head c) (part (_, b) (loop b) (part (_, ds) (tops ds) end)))))
+tops (program.for_region m w c b ds) =
+    by rule.for_region (token m (token w (part (_, _, _, c) (of_head c) (part (_, b) (loop b) (part (_, ds) (tops ds) end)))))
 tops (program.region m w c b ds) = by rule.region (token m (token w (part (_, c) (condition c) (part (_, b) (loop b) (part (_, ds) (tops ds) end)))))
 
 ending : {from to : List Lexeme} → DerivesReturn from to → Spans Ending from to
@@ -159,7 +165,8 @@ ending (program.zero w v e) = by rule.return (token w (token {p = Zero} v (token
 
 body_of : {from to : List Lexeme} {body : List RawStmt} → DerivesMain from to body → Spans Body from to
 body_of (program.main i m o p b d r c) = by rule.main (token i (token m (token o (token p (token b (part (_, d) (tops d) (part r (ending r) (token c end))))))))
-body_of (program.main_void i m o v p b d r c) = by rule.main_void (token i (token m (token o (token v (token p (token b (part (_, d) (tops d) (part r (ending r) (token c end)))))))))
+body_of (program.main_void i m o v p b d r c) =
+    by rule.main_void (token i (token m (token o (token v (token p (token b (part (_, d) (tops d) (part r (ending r) (token c end)))))))))
 
 pub derived_spans : (n : Nonterminal) {from to : List Lexeme} → Derived n from to → Spans n from to
 derived_spans (Expression l) d = expr d.1

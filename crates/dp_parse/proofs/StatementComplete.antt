@@ -4,15 +4,17 @@ use Rattle.dp_lex.specs.Token.{Lexeme}
 use Rattle.dp_tree.specs.declared.raw.RawExpr.{RawExpr}
 use Rattle.dp_tree.specs.declared.raw.RawStmt.{RawStmt}
 use Rattle.dp_tree.specs.declared.raw.RawStmt.TheVariants as tree
-use Rattle.dp_tokens.specs.declared.symbol.Symbol.TheVariants.{Name, Int, Print, While, For, If, Else, Assign, OpenParen, OpenBracket, OpenBrace, CloseBrace, Semicolon}
+use Rattle.dp_tokens.specs.declared.symbol.Symbol.TheVariants.{Name, Int, Print, While, For, If, Else, Assign, OpenParen, OpenBracket, OpenBrace, CloseBrace}
+use Rattle.dp_tokens.specs.declared.symbol.Symbol.TheVariants.{Semicolon}
 use Rattle.dp_tokens.specs.Symbols.{symbol_at, Is}
 use Rattle.dp_tokens.specs.Leaves.{name_of}
 use Rattle.dp_parse.specs.declared.level.Level.TheVariants.{Or}
 use Rattle.dp_parse.specs.Expressions.{DerivesExpr}
 use Rattle.dp_parse.specs.Heads.{DerivesHead}
-use Rattle.dp_parse.specs.Statements.{none, DerivesStatement, declare, assign, store, call, print, loop, for_loop, choice, DerivesChoice, alone, otherwise, else_if, DerivesBlock, block, DerivesStatements}
+use Rattle.dp_parse.specs.Statements.{none, DerivesStatement, declare, assign, store, call, print, loop, for_loop, choice, DerivesChoice, alone, otherwise}
+use Rattle.dp_parse.specs.Statements.{else_if, DerivesBlock, block, DerivesStatements}
 use Rattle.dp_parse.specs.Statements as statements
-use Rattle.dp_tokens.specs.Steps.{Parser, pure, sees, many}
+use Rattle.dp_tokens.specs.Steps.{Parser, pure, sees_symbol, many}
 use Rattle.dp_parse.specs.steps.Heads as heads
 use Rattle.dp_parse.specs.steps.Statements as read
 use Rattle.dp_parse.proofs.StepLemmas.{is_same, expects, eats, stays, sees_is, sees_other}
@@ -28,23 +30,30 @@ use Rattle.dp_parse.proofs.Going.{goes_whole}
 
 -- ---- declarations and what begins with a name
 
-reads_declaration : (int name equals end : Lexeme) (from to : List Lexeme) (e : RawExpr) → Is Int int → Is Name name → Is Assign equals → DerivesExpr Or from (end ∷ to) e → Is Semicolon end →
+reads_declaration : (int name equals end : Lexeme) (from to : List Lexeme) (e : RawExpr) → Is Int int → Is Name name → Is Assign equals →
+    DerivesExpr Or from (end ∷ to) e → Is Semicolon end →
     read.declaration (int ∷ name ∷ equals ∷ from) ≡ Ok (tree.Declare int.line (name_of name) e, to)
 unfolding read.declaration symbol_at
 reads_declaration int name equals end from to e i n q d h =
-    reads_ended heads.declare (int ∷ name ∷ equals ∷ from) end to (tree.Declare int.line (name_of name) e) (reads_declare int name equals from (end ∷ to) e i n q d (ends_at Semicolon (end ∷ to) h refl (λ e. cc e))) h
+    reads_ended heads.declare (int ∷ name ∷ equals ∷ from) end to (tree.Declare int.line (name_of name) e)
+    (reads_declare int name equals from (end ∷ to) e i n q d (ends_at Semicolon (end ∷ to) h refl (λ e. cc e))) h
 
-reads_named : (name end : Lexeme) (from to : List Lexeme) (s : RawStmt) → Is Name name → (symbol_at from ≡ OpenParen → ⊥) → heads.assign (name_of name) from ≡ Ok (s, end ∷ to) → Is Semicolon end → read.named (name ∷ from) ≡ Ok (s, to)
+reads_named : (name end : Lexeme) (from to : List Lexeme) (s : RawStmt) → Is Name name → (symbol_at from ≡ OpenParen → ⊥) →
+    heads.assign (name_of name) from ≡ Ok (s, end ∷ to) → Is Semicolon end → read.named (name ∷ from) ≡ Ok (s, to)
 unfolding read.named
 reads_named name end from to s n other h e =
-    goes behind_name (reads_name name from n) ∙ ap (λ (b : Bool). read.named_by (name_of name) b from) (sees_other OpenParen from other) ∙ reads_ended (heads.assign (name_of name)) from end to s h e
+    goes behind_name (reads_name name from n) ∙ ap (λ (b : Bool). read.named_by (name_of name) b from) (sees_other OpenParen from other)
+    ∙ reads_ended (heads.assign (name_of name)) from end to s h e
 
-calls_named : (name opening : Lexeme) (from to : List Lexeme) (s : RawStmt) → Is Name name → Is OpenParen opening → read.call (name_of name) (opening ∷ from) ≡ Ok (s, to) → read.named (name ∷ opening ∷ from) ≡ Ok (s, to)
+calls_named : (name opening : Lexeme) (from to : List Lexeme) (s : RawStmt) → Is Name name → Is OpenParen opening →
+    read.call (name_of name) (opening ∷ from) ≡ Ok (s, to) → read.named (name ∷ opening ∷ from) ≡ Ok (s, to)
 unfolding read.named
 calls_named name opening from to s n o h =
-    goes behind_name (reads_name name (opening ∷ from) n) ∙ ap (λ (b : Bool). read.named_by (name_of name) b (opening ∷ from)) (sees_is OpenParen opening from o) ∙ h
+    goes behind_name (reads_name name (opening ∷ from) n) ∙ ap (λ (b : Bool). read.named_by (name_of name) b (opening ∷ from))
+    (sees_is OpenParen opening from o) ∙ h
 
-reads_counted : (statement : Parser RawStmt) (word : Lexeme) (from middle to : List Lexeme) (first step : RawStmt) (e : RawExpr) (body : List RawStmt) → Is For word → DerivesHead from middle first e step →
+reads_counted : (statement : Parser RawStmt) (word : Lexeme) (from middle to : List Lexeme) (first step : RawStmt) (e : RawExpr) (body : List RawStmt) →
+    Is For word → DerivesHead from middle first e step →
     read.block statement middle ≡ Ok (body, to) → read.counted statement (word ∷ from) ≡ Ok (tree.For word.line false (first ∷ []) e (step ∷ []) body, to)
 unfolding read.counted
 reads_counted statement word from middle to first step e body w d h =
@@ -57,20 +66,23 @@ module _ (statement : Parser RawStmt) where
   unfolding read.otherwise
   reads_nothing to other = stays Else (read.otherwise_by statement) to other
 
-  reads_else_block : (other : Lexeme) (rest to : List Lexeme) (part : List RawStmt) → Is Else other → symbol_at rest ≡ OpenBrace → read.block statement rest ≡ Ok (part, to) →
+  reads_else_block : (other : Lexeme) (rest to : List Lexeme) (part : List RawStmt) → Is Else other → symbol_at rest ≡ OpenBrace →
+      read.block statement rest ≡ Ok (part, to) →
       read.otherwise statement (other ∷ rest) ≡ Ok (part, to)
   unfolding read.otherwise
   reads_else_block other rest to part o at h =
       eats Else (read.otherwise_by statement) other rest o
       ∙ ap (λ (b : Bool). read.else_by statement b rest) (sees_other If rest (λ k. let clash : OpenBrace ≡ If = sym at ∙ k in cc clash)) ∙ h
 
-  reads_else_if : (other : Lexeme) (rest to : List Lexeme) (s : RawStmt) → Is Else other → symbol_at rest ≡ If → statement rest ≡ Ok (s, to) → read.otherwise statement (other ∷ rest) ≡ Ok (s ∷ [], to)
-  unfolding read.otherwise sees
+  reads_else_if : (other : Lexeme) (rest to : List Lexeme) (s : RawStmt) → Is Else other → symbol_at rest ≡ If → statement rest ≡ Ok (s, to) →
+      read.otherwise statement (other ∷ rest) ≡ Ok (s ∷ [], to)
+  unfolding read.otherwise sees_symbol
   reads_else_if other rest to s o at h =
       eats Else (read.otherwise_by statement) other rest o
       ∙ ap (λ (b : Bool). read.else_by statement b rest) (is_same (symbol_at rest) If at) ∙ goes (λ s. pure (s ∷ [])) h
 
-  in_braces : (opening closing : Lexeme) (from to : List Lexeme) (body : List RawStmt) → Is OpenBrace opening → many (sees CloseBrace) statement (length from) [] from ≡ Ok (body, closing ∷ to) → Is CloseBrace closing →
+  in_braces : (opening closing : Lexeme) (from to : List Lexeme) (body : List RawStmt) → Is OpenBrace opening →
+      many (sees_symbol CloseBrace) statement (length from) [] from ≡ Ok (body, closing ∷ to) → Is CloseBrace closing →
       read.block statement (opening ∷ from) ≡ Ok (body, to)
   unfolding read.block
   in_braces opening closing from to body o h c =
@@ -79,7 +91,8 @@ module _ (statement : Parser RawStmt) where
 mutual
   unfolding symbol_at
 
-  pub reads_statement : {from to : List Lexeme} {s : RawStmt} → DerivesStatement from to s → (n : ℕ) → length from ≤ n → (symbol_at to ≡ Else → ⊥) → read.statement n from ≡ Ok (s, to)
+  pub reads_statement : {from to : List Lexeme} {s : RawStmt} → DerivesStatement from to s → (n : ℕ) → length from ≤ n → (symbol_at to ≡ Else → ⊥) →
+      read.statement n from ≡ Ok (s, to)
   reads_statement (declare {int} {name} {equals} {end} {from} {to} {e} i n q d h) depth fits other =
       statement_opens depth (int ∷ name ∷ equals ∷ from) Int (omega arith) i ∙ reads_declaration int name equals end from to e i n q d h
   reads_statement (assign {name} {equals} {end} {from} {to} {e} n q d h) depth fits other =
@@ -107,7 +120,8 @@ mutual
       let least = shorter rule.Choice _ _ refl (_, d) in
       statement_opens depth from If (omega arith) (choice_first (goes_whole rule.Choice refl (_, d))) ∙ reads_choice d (depth - 1) (omega arith) other
 
-  pub reads_choice : {from to : List Lexeme} {s : RawStmt} → DerivesChoice from to s → (n : ℕ) → length from ≤ suc n → (symbol_at to ≡ Else → ⊥) → read.choice (read.statement n) from ≡ Ok (s, to)
+  pub reads_choice : {from to : List Lexeme} {s : RawStmt} → DerivesChoice from to s → (n : ℕ) → length from ≤ suc n → (symbol_at to ≡ Else → ⊥) →
+      read.choice (read.statement n) from ≡ Ok (s, to)
   reads_choice (alone {word} {from} {middle} {to} {e} {body} w d b) depth fits other =
       let less = shorter rule.Condition _ _ refl (_, d) in
       reads_if (read.statement depth) word from middle to to e body [] w d (reads_block b depth (omega arith)) (reads_nothing (read.statement depth) to other)
@@ -122,15 +136,17 @@ mutual
       (reads_else_if (read.statement depth) other after to s o (choice_first (goes_whole rule.Choice refl (_, f)))
       (statement_opens depth after If (omega arith) (choice_first (goes_whole rule.Choice refl (_, f))) ∙ reads_choice f (depth - 1) (omega arith) free))
 
-  pub reads_block : {from to : List Lexeme} {body : List RawStmt} → DerivesBlock from to body → (n : ℕ) → length from ≤ suc n → read.block (read.statement n) from ≡ Ok (body, to)
+  pub reads_block : {from to : List Lexeme} {body : List RawStmt} → DerivesBlock from to body → (n : ℕ) → length from ≤ suc n →
+      read.block (read.statement n) from ≡ Ok (body, to)
   reads_block (block {opening} {closing} {from} {to} {body} o d c) depth fits =
       in_braces (read.statement depth) opening closing from to body o (reads_statements d depth (omega arith) c [] (length from) (omega arith)) c
 
-  pub reads_statements : {from to : List Lexeme} {body : List RawStmt} → DerivesStatements from to body → (n : ℕ) → length from ≤ n → symbol_at to ≡ CloseBrace →
-      (found : List RawStmt) (k : ℕ) → length from ≤ k → many (sees CloseBrace) (read.statement n) k found from ≡ Ok (found ++ body, to)
+  pub reads_statements : {from to : List Lexeme} {body : List RawStmt} → DerivesStatements from to body → (n : ℕ) → length from ≤ n →
+      symbol_at to ≡ CloseBrace →
+      (found : List RawStmt) (k : ℕ) → length from ≤ k → many (sees_symbol CloseBrace) (read.statement n) k found from ≡ Ok (found ++ body, to)
   reads_statements (statements.none {to}) depth fits ends found k enough = many_closed (read.statement depth) k found to ends enough
   reads_statements (statements.more {from} {middle} {to} {s} {body} d ds) depth fits ends found k enough =
       let less = shorter rule.Statement _ _ refl (_, d) in
-      many_more (read.statement depth) (sees CloseBrace) k found from middle to s body (sees_other CloseBrace from (begins_not d CloseBrace refl))
+      many_more (read.statement depth) (sees_symbol CloseBrace) k found from middle to s body (sees_other CloseBrace from (begins_not d CloseBrace refl))
       (reads_statement d depth fits (statements_not ds Else refl (λ at. let clash : CloseBrace ≡ Else = sym ends ∙ at in cc clash))) less enough
       (reads_statements ds depth (omega arith) ends (found ++ s ∷ []) (k - 1) (omega arith))

@@ -13,7 +13,7 @@ use Rattle.dp_parse.specs.Expressions as expression
 use Rattle.dp_parse.specs.Heads.{DerivesFirst, declared, simple, scalar, element}
 use Rattle.dp_parse.specs.Statements.{DerivesArguments, DerivesCondition, condition, DerivesStatement, declare, assign, store, call, print}
 use Rattle.dp_parse.specs.Statements as statements
-use Rattle.dp_tokens.specs.Steps.{Parser, ◌>>=◌, pure, expect, sees}
+use Rattle.dp_tokens.specs.Steps.{Parser, ◌>>=◌, pure, expect, sees_symbol}
 use Rattle.dp_tokens.specs.Steps as step
 use Rattle.dp_parse.specs.steps.Expressions as expr
 use Rattle.dp_parse.specs.steps.Heads as declares
@@ -51,38 +51,44 @@ sound_list from to es h =
     moved DerivesList refl refl r.1 r.2
 
 arguments_by : (b : Bool) (from to : List Lexeme) (es : List RawExpr) → read.arguments_by b from ≡ Ok (es, to) → DerivesArguments from to es
-arguments_by true from to es h = let parts = same_pair {a = []} {b = es} {x = from} {y = to} h in moved DerivesArguments parts.1 refl (sym parts.0) statements.none
+arguments_by true from to es h = let parts = same_pair {a = []} {b = es} {x = from} {y = to} h in
+    moved DerivesArguments parts.1 refl (sym parts.0) statements.none
 arguments_by false from to es h = statements.some (sound_list from to es h)
 
 pub sound_arguments : Sound read.arguments DerivesArguments
 unfolding read.arguments
-sound_arguments from to es h = arguments_by (sees CloseParen from) from to es h
+sound_arguments from to es h = arguments_by (sees_symbol CloseParen from) from to es h
 
-sound_call : (name : Lexeme) (from to : List Lexeme) (s : RawStmt) → Is Name name → read.call (name_of name) from ≡ Ok (s, to) → DerivesStatement (name ∷ from) to s
+sound_call : (name : Lexeme) (from to : List Lexeme) (s : RawStmt) → Is Name name → read.call (name_of name) from ≡ Ok (s, to) →
+    DerivesStatement (name ∷ from) to s
 unfolding read.call
 sound_call name from to s is h =
-    let o = takes OpenParen from (λ _. read.arguments >>= (λ args. expect CloseParen >>= (λ _. expect Semicolon >>= (λ _. pure (tree.Call (name_of name) args))))) s to h in
-    let p = then_of (read.arguments o.middle) (λ args. expect CloseParen >>= (λ _. expect Semicolon >>= (λ _. pure (tree.Call (name_of name) args)))) s to o.second in
+    let o = takes OpenParen from
+    (λ _. read.arguments >>= (λ args. expect CloseParen >>= (λ _. expect Semicolon >>= (λ _. pure (tree.Call (name_of name) args))))) s to h in
+    let p = then_of (read.arguments o.middle)
+    (λ args. expect CloseParen >>= (λ _. expect Semicolon >>= (λ _. pure (tree.Call (name_of name) args)))) s to o.second in
     let q = takes CloseParen p.middle (λ _. expect Semicolon >>= (λ _. pure (tree.Call (name_of name) p.value))) s to p.second in
     let v = takes Semicolon q.middle (λ _. pure (tree.Call (name_of name) p.value)) s to q.second in
     let parts = same_pair {a = tree.Call (name_of name) p.value} {b = s} {x = v.middle} {y = to} v.second in
     let args = moved DerivesArguments refl (sym (q.splits ∙ taken q.value v.splits)) refl (sound_arguments o.middle p.middle p.value p.first) in
     moved DerivesStatement (taken name o.splits) (sym parts.1) (sym parts.0) (call is o.is args q.is v.is)
 
-named_at : (name : Lexeme) (b : Bool) (from to : List Lexeme) (s : RawStmt) → Is Name name → read.named_by (name_of name) b from ≡ Ok (s, to) → DerivesStatement (name ∷ from) to s
+named_at : (name : Lexeme) (b : Bool) (from to : List Lexeme) (s : RawStmt) → Is Name name → read.named_by (name_of name) b from ≡ Ok (s, to) →
+    DerivesStatement (name ∷ from) to s
 named_at name true from to s is h = sound_call name from to s is h
 named_at name false from to s is h =
     let c = closed (declares.assign (name_of name)) Semicolon (λ s. s) s from to h in
     moved DerivesStatement refl refl c.made (with_end (simple (sound_assign name from (c.closing ∷ to) c.value is c.first)) c.is)
 
 abbrev pub behind_name : TreeName → Parser RawStmt
-behind_name name = λ ts. read.named_by name (sees OpenParen ts) ts
+behind_name name = λ ts. read.named_by name (sees_symbol OpenParen ts) ts
 
 pub sound_named : Sound read.named DerivesStatement
 unfolding read.named
 sound_named from to s h =
     let o = then_of (step.name from) behind_name s to h in let n = read_name from o.middle o.value o.first in
-    moved DerivesStatement n.splits refl refl (named_at n.token (sees OpenParen o.middle) o.middle to s n.is (ap (λ (name : TreeName). behind_name name o.middle) (sym n.called) ∙ o.second))
+    moved DerivesStatement n.splits refl refl (named_at n.token (sees_symbol OpenParen o.middle) o.middle to s n.is
+    (ap (λ (name : TreeName). behind_name name o.middle) (sym n.called) ∙ o.second))
 
 pub sound_print : Sound read.print DerivesStatement
 unfolding read.print

@@ -5,16 +5,18 @@ use Rattle.dp_tree.specs.declared.raw.RawExpr.{RawExpr}
 use Rattle.dp_tree.specs.declared.raw.RawStmt.{RawStmt}
 use Rattle.dp_tree.specs.declared.raw.RawStmt.TheVariants as tree
 use Rattle.dp_tokens.specs.declared.symbol.Symbol.{Symbol}
-use Rattle.dp_tokens.specs.declared.symbol.Symbol.TheVariants.{Name, Int, Print, While, For, If, OpenParen, CloseParen, OpenBracket, OpenBrace, Semicolon, Comma}
+use Rattle.dp_tokens.specs.declared.symbol.Symbol.TheVariants.{Name, Int, Print, While, For, If, OpenParen, CloseParen, OpenBracket, OpenBrace, Semicolon}
+use Rattle.dp_tokens.specs.declared.symbol.Symbol.TheVariants.{Comma}
 use Rattle.dp_parse.specs.declared.level.Level.TheVariants.{Or}
 use Rattle.dp_tokens.specs.Symbols.{symbol_at, Is}
 use Rattle.dp_parse.specs.Levels.{joining, prefixing}
 use Rattle.dp_parse.specs.declared.level.Level.{Level}
 use Rattle.dp_tokens.specs.Leaves.{name_of}
 use Rattle.dp_parse.specs.Expressions.{DerivesExpr, operand, chain, prefix, number, scalar, element, parenthesized, DerivesList, last, more}
-use Rattle.dp_parse.specs.Statements.{DerivesArguments, none, some, DerivesCondition, condition, DerivesStatement, declare, assign, store, call, print, loop, for_loop, choice, alone, otherwise, else_if, DerivesBlock, block, DerivesStatements}
+use Rattle.dp_parse.specs.Statements.{DerivesArguments, none, some, DerivesCondition, condition, DerivesStatement, declare, assign, store, call, print, loop}
+use Rattle.dp_parse.specs.Statements.{for_loop, choice, alone, otherwise, else_if, DerivesBlock, block, DerivesStatements}
 use Rattle.dp_parse.specs.Statements as statements
-use Rattle.dp_tokens.specs.Steps.{Outcome, Parser, and_then, sees, separated}
+use Rattle.dp_tokens.specs.Steps.{Outcome, Parser, parse_then, sees_symbol, separated}
 use Rattle.dp_parse.specs.steps.Expressions as expr
 use Rattle.dp_parse.specs.steps.Statements as read
 use Rattle.dp_parse.proofs.StepLemmas.{pair, expects, sees_is, sees_other, after_is, after_other}
@@ -26,11 +28,12 @@ use Rattle.dp_parse.proofs.Going.{Goes, by, within, word_first, goes_whole}
 use Rattle.dp_parse.proofs.ExpressionComplete.{whole_read}
 
 -- a step that answers, and what follows it
-pub goes : {A B : Type 0} {o : Outcome A} {a : A} {left : List Lexeme} (f : A → Parser B) → o ≡ Ok (a, left) → and_then o f ≡ f a left
-goes f e = ap (λ o. and_then o f) e
+pub goes : {A B : Type 0} {o : Outcome A} {a : A} {left : List Lexeme} (f : A → Parser B) → o ≡ Ok (a, left) → parse_then o f ≡ f a left
+goes f e = ap (λ o. parse_then o f) e
 
 -- an expression is read up to the symbol that closes it
-pub before : (s : Symbol) {t : Lexeme} {from to : List Lexeme} {e : RawExpr} → joining s ≡ None → (s ≡ OpenBracket → ⊥) → DerivesExpr Or from (t ∷ to) e → Is s t → expr.whole from ≡ Ok (e, t ∷ to)
+pub before : (s : Symbol) {t : Lexeme} {from to : List Lexeme} {e : RawExpr} → joining s ≡ None → (s ≡ OpenBracket → ⊥) → DerivesExpr Or from (t ∷ to) e →
+    Is s t → expr.whole from ≡ Ok (e, t ∷ to)
 unfolding symbol_at
 before s {t} {from} {to} {e} free other d h = whole_read from (t ∷ to) e d (ap joining h ∙ free) (λ k. other (sym h ∙ k))
 
@@ -40,13 +43,14 @@ reads_condition (condition {opening} {closing} {from} {to} {e} o d c) =
     rw (expects OpenParen opening from o) (rw (before CloseParen refl (λ e. cc e) d c) (rw (expects CloseParen closing to c)))
 
 -- a list is read on, behind those that were found
-reads_list : {from to : List Lexeme} {es : List RawExpr} → DerivesList from to es → (closing : Lexeme) (rest : List Lexeme) → to ≡ closing ∷ rest → Is CloseParen closing →
+reads_list : {from to : List Lexeme} {es : List RawExpr} → DerivesList from to es → (closing : Lexeme) (rest : List Lexeme) → to ≡ closing ∷ rest →
+    Is CloseParen closing →
     (k : ℕ) (found : List RawExpr) → length from ≤ k → separated expr.whole k found from ≡ Ok (found ++ es, to)
 unfolding symbol_at
 reads_list (last {from} {to} {e} d) closing rest splits h k found fits =
     let at : DerivesExpr Or from (closing ∷ rest) e = rw (← splits) d in
     let less = shorter (rule.Expression _) _ _ refl (_, d) in
-    let stop : sees Comma to ≡ false = rw splits (sees_other Comma (closing ∷ rest) (λ c. let clash : CloseParen ≡ Comma = sym h ∙ c in cc clash)) in
+    let stop : sees_symbol Comma to ≡ false = rw splits (sees_other Comma (closing ∷ rest) (λ c. let clash : CloseParen ≡ Comma = sym h ∙ c in cc clash)) in
     separated_off expr.whole k found from to e (before CloseParen refl (λ e. cc e) at h ∙ ap (λ (ts : List Lexeme). Ok (pair e ts)) (sym splits)) less fits stop
     ∙ ap (λ (ts : List Lexeme). Ok (pair (found ++ e ∷ []) ts)) (after_other Comma to stop)
 reads_list (more {comma} {from} {middle} {to} {e} {es} d c ds) closing rest splits h k found fits =
@@ -71,33 +75,41 @@ no_paren_list : {from to : List Lexeme} {es : List RawExpr} → DerivesList from
 no_paren_list (last d) at = no_paren d at
 no_paren_list (more d c ds) at = no_paren d at
 
-pub reads_arguments : {from to : List Lexeme} {es : List RawExpr} → DerivesArguments from to es → (closing : Lexeme) (rest : List Lexeme) → to ≡ closing ∷ rest → Is CloseParen closing → read.arguments from ≡ Ok (es, to)
+pub reads_arguments : {from to : List Lexeme} {es : List RawExpr} → DerivesArguments from to es → (closing : Lexeme) (rest : List Lexeme) →
+    to ≡ closing ∷ rest → Is CloseParen closing → read.arguments from ≡ Ok (es, to)
 unfolding read.arguments expr.list
 reads_arguments (none {to}) closing rest splits h =
-    let seen : sees CloseParen to ≡ true = rw splits (sees_is CloseParen closing rest h) in
+    let seen : sees_symbol CloseParen to ≡ true = rw splits (sees_is CloseParen closing rest h) in
     ap (λ (b : Bool). read.arguments_by b to) seen
 reads_arguments (some {from} {to} {es} d) closing rest splits h =
-    ap (λ (b : Bool). read.arguments_by b from) (sees_other CloseParen from (no_paren_list d)) ∙ reads_list d closing rest splits h (length from) [] (omega arith)
+    ap (λ (b : Bool). read.arguments_by b from) (sees_other CloseParen from (no_paren_list d))
+    ∙ reads_list d closing rest splits h (length from) [] (omega arith)
 
-pub reads_call : (name opening closing end : Lexeme) (from to : List Lexeme) (args : List RawExpr) → Is OpenParen opening → DerivesArguments from (closing ∷ end ∷ to) args → Is CloseParen closing → Is Semicolon end →
+pub reads_call : (name opening closing end : Lexeme) (from to : List Lexeme) (args : List RawExpr) → Is OpenParen opening →
+    DerivesArguments from (closing ∷ end ∷ to) args → Is CloseParen closing → Is Semicolon end →
     read.call (name_of name) (opening ∷ from) ≡ Ok (tree.Call (name_of name) args, to)
 unfolding read.call
 reads_call name opening closing end from to args o d c h =
-    rw (expects OpenParen opening from o) (rw (reads_arguments d closing (end ∷ to) refl c) (rw (expects CloseParen closing (end ∷ to) c) (rw (expects Semicolon end to h))))
+    rw (expects OpenParen opening from o) (rw (reads_arguments d closing (end ∷ to) refl c)
+    (rw (expects CloseParen closing (end ∷ to) c) (rw (expects Semicolon end to h))))
 
-pub reads_print : (word end : Lexeme) (from to : List Lexeme) (e : RawExpr) → Is Print word → DerivesCondition from (end ∷ to) e → Is Semicolon end → read.print (word ∷ from) ≡ Ok (tree.Print word.line e, to)
+pub reads_print : (word end : Lexeme) (from to : List Lexeme) (e : RawExpr) → Is Print word → DerivesCondition from (end ∷ to) e → Is Semicolon end →
+    read.print (word ∷ from) ≡ Ok (tree.Print word.line e, to)
 unfolding read.print
 reads_print word end from to e w d h =
     rw (expects Print word from w) (rw (reads_condition d) (rw (expects Semicolon end to h)))
 
-pub reads_repeated : (statement : Parser RawStmt) (word : Lexeme) (from middle to : List Lexeme) (e : RawExpr) (body : List RawStmt) → Is While word → DerivesCondition from middle e →
+pub reads_repeated : (statement : Parser RawStmt) (word : Lexeme) (from middle to : List Lexeme) (e : RawExpr) (body : List RawStmt) → Is While word →
+    DerivesCondition from middle e →
     read.block statement middle ≡ Ok (body, to) → read.repeated statement (word ∷ from) ≡ Ok (tree.While word.line false e body, to)
 unfolding read.repeated
 reads_repeated statement word from middle to e body w d h =
     rw (expects While word from w) (rw (reads_condition d) (rw h))
 
-pub reads_if : (statement : Parser RawStmt) (word : Lexeme) (from middle rest to : List Lexeme) (e : RawExpr) (body part : List RawStmt) → Is If word → DerivesCondition from middle e →
-    read.block statement middle ≡ Ok (body, rest) → read.otherwise statement rest ≡ Ok (part, to) → read.choice statement (word ∷ from) ≡ Ok (tree.If word.line e body part, to)
+pub reads_if : (statement : Parser RawStmt) (word : Lexeme) (from middle rest to : List Lexeme) (e : RawExpr) (body part : List RawStmt) → Is If word →
+    DerivesCondition from middle e →
+    read.block statement middle ≡ Ok (body, rest) → read.otherwise statement rest ≡ Ok (part, to) →
+    read.choice statement (word ∷ from) ≡ Ok (tree.If word.line e body part, to)
 unfolding read.choice
 reads_if statement word from middle rest to e body part w d h g =
     rw (expects If word from w) (rw (reads_condition d) (rw h (rw g)))
@@ -138,6 +150,7 @@ unfolding symbol_at
 block_begins (block o d c) = o
 
 -- what stands before another symbol than those that begin a statement doesn't go on by one
-pub statements_not : {from to : List Lexeme} {body : List RawStmt} → DerivesStatements from to body → (k : Symbol) → begins k ≡ false → (symbol_at to ≡ k → ⊥) → symbol_at from ≡ k → ⊥
+pub statements_not : {from to : List Lexeme} {body : List RawStmt} → DerivesStatements from to body → (k : Symbol) → begins k ≡ false → (symbol_at to ≡ k → ⊥) →
+    symbol_at from ≡ k → ⊥
 statements_not statements.none k off other at = other at
 statements_not (statements.more d ds) k off other at = begins_not d k off at

@@ -16,7 +16,8 @@ statement_opens (suc n) ts k some e =
     rw same (ap (λ (s : Symbol). read.statement_by (read.statement n) s ts) e)
 
 -- any other symbol has to begin an `if`
-pub choice_by : (statement : Parser RawStmt) (k : Symbol) → (k ≡ Int → ⊥) → (k ≡ Name → ⊥) → (k ≡ Print → ⊥) → (k ≡ While → ⊥) → (k ≡ For → ⊥) → read.statement_by statement k ≡ read.choice statement
+pub choice_by : (statement : Parser RawStmt) (k : Symbol) → (k ≡ Int → ⊥) → (k ≡ Name → ⊥) → (k ≡ Print → ⊥) → (k ≡ While → ⊥) → (k ≡ For → ⊥) →
+    read.statement_by statement k ≡ read.choice statement
 choice_by statement Int i n p w f = absurd (i refl)
 choice_by statement Name i n p w f = absurd (n refl)
 choice_by statement Print i n p w f = absurd (p refl)

@@ -8,7 +8,7 @@ use Rattle.dp_tokens.specs.contracts.symbol.Symbol as symbols
 use Rattle.dp_parse.specs.declared.level.Level.{Level}
 use Rattle.dp_parse.specs.contracts.level.Level as levels
 use Rattle.dp_tokens.specs.Symbols.{symbol, symbol_at, Is}
-use Rattle.dp_tokens.specs.Steps.{Outcome, Parser, and_then, ◌>>=◌, pure, given, same_symbol, sees, after, rest, eat, expect}
+use Rattle.dp_tokens.specs.Steps.{Outcome, Parser, parse_then, ◌>>=◌, pure, given, same_symbol, sees_symbol, after, rest, eat, expect}
 use Rattle.dp_parse.specs.steps.Operators.{same_level}
 
 abbrev pub pair : {A : Type 0} → A → List Lexeme → A × List Lexeme
@@ -21,7 +21,7 @@ pub record Then {A B : Type 0} (o : Outcome A) (f : A → Parser B) (b : B) (lef
   pub first : o ≡ Ok (value, middle)
   pub second : f value middle ≡ Ok (b, left)
 
-pub then_of : {A B : Type 0} (o : Outcome A) (f : A → Parser B) (b : B) (left : List Lexeme) → and_then o f ≡ Ok (b, left) → Then o f b left
+pub then_of : {A B : Type 0} (o : Outcome A) (f : A → Parser B) (b : B) (left : List Lexeme) → parse_then o f ≡ Ok (b, left) → Then o f b left
 then_of (Ok p) f b left e = record { value = p.0; middle = p.1; first = refl; second = e }
 then_of (Err stuck) f b left e = absurd (cc)
 
@@ -73,7 +73,8 @@ module _ {A : Type 0} where
   pub same_pair : {a b : A} {x y : List Lexeme} → read_as a x ≡ read_as b y → (a ≡ b) × (x ≡ y)
   same_pair {a} {b} {x} {y} e = let h : both a x ≡ both b y = cc e in (ap (λ p. p.0) h, ap (λ p. p.1) h)
 
-took_by : (s : Symbol) (u : Lexeme) (us : List Lexeme) (t : Lexeme) (left : List Lexeme) (b : Bool) → same_symbol (symbol u) s ≡ b → taking b u us ≡ Ok (t, left) → Took s (u ∷ us) t left
+took_by : (s : Symbol) (u : Lexeme) (us : List Lexeme) (t : Lexeme) (left : List Lexeme) (b : Bool) → same_symbol (symbol u) s ≡ b →
+    taking b u us ≡ Ok (t, left) → Took s (u ∷ us) t left
 took_by s u us t left true same e =
     let parts : (u ≡ t) × (us ≡ left) = same_pair e in
     record { is = ap symbol (sym parts.0) ∙ same_is (symbol u) s same; splits = cc (parts.0, parts.1) }
@@ -92,7 +93,8 @@ pub record Takes {B : Type 0} (s : Symbol) (ts : List Lexeme) (f : Lexeme → Pa
   pub splits : ts ≡ value ∷ middle
   pub second : f value middle ≡ Ok (b, left)
 
-pub takes : {B : Type 0} (s : Symbol) (ts : List Lexeme) (f : Lexeme → Parser B) (b : B) (left : List Lexeme) → and_then (expect s ts) f ≡ Ok (b, left) → Takes s ts f b left
+pub takes : {B : Type 0} (s : Symbol) (ts : List Lexeme) (f : Lexeme → Parser B) (b : B) (left : List Lexeme) →
+    parse_then (expect s ts) f ≡ Ok (b, left) → Takes s ts f b left
 takes s ts f b left e =
     let o = then_of (expect s ts) f b left e in let t = took s ts o.value o.middle o.first in
     record { value = o.value; middle = o.middle; is = t.is; splits = t.splits; second = o.second }
@@ -102,19 +104,19 @@ unfolding expect
 expects s t ts h = ap (λ (b : Bool). taking b t ts) (is_same (symbol t) s h)
 
 -- what an `eat` tells
-pub sees_is : (s : Symbol) (t : Lexeme) (ts : List Lexeme) → Is s t → sees s (t ∷ ts) ≡ true
-unfolding sees symbol_at
+pub sees_is : (s : Symbol) (t : Lexeme) (ts : List Lexeme) → Is s t → sees_symbol s (t ∷ ts) ≡ true
+unfolding sees_symbol symbol_at
 sees_is s t ts h = is_same (symbol t) s h
 
-pub sees_other : (s : Symbol) (ts : List Lexeme) → (symbol_at ts ≡ s → ⊥) → sees s ts ≡ false
-unfolding sees
+pub sees_other : (s : Symbol) (ts : List Lexeme) → (symbol_at ts ≡ s → ⊥) → sees_symbol s ts ≡ false
+unfolding sees_symbol
 sees_other s ts f = not_same (symbol_at ts) s f
 
 pub after_is : (s : Symbol) (t : Lexeme) (ts : List Lexeme) → Is s t → after s (t ∷ ts) ≡ ts
 unfolding after rest
 after_is s t ts h = ap (λ (b : Bool). if b then ts else t ∷ ts) (sees_is s t ts h)
 
-pub after_other : (s : Symbol) (ts : List Lexeme) → sees s ts ≡ false → after s ts ≡ ts
+pub after_other : (s : Symbol) (ts : List Lexeme) → sees_symbol s ts ≡ false → after s ts ≡ ts
 unfolding after
 after_other s ts h = ap (λ (b : Bool). if b then rest ts else ts) h
 
@@ -124,15 +126,16 @@ pub data Ate {B : Type 0} (s : Symbol) (f : Bool → Parser B) (ts : List Lexeme
   stayed : (symbol_at ts ≡ s → ⊥) → f false ts ≡ Ok (b, left) → Ate s f ts b left
 
 module _ {B : Type 0} (s : Symbol) (f : Bool → Parser B) where
-  ate_by : (b : B) (left ts : List Lexeme) (real : End ≡ s → ⊥) (there : Bool) → sees s ts ≡ there → f there (after s ts) ≡ Ok (b, left) → Ate s f ts b left
-  unfolding sees symbol_at
+  ate_by : (b : B) (left ts : List Lexeme) (real : End ≡ s → ⊥) (there : Bool) → sees_symbol s ts ≡ there →
+      f there (after s ts) ≡ Ok (b, left) → Ate s f ts b left
+  unfolding sees_symbol symbol_at
   ate_by b left [] real true h e = absurd (real (same_is End s h))
   ate_by b left (t ∷ ts) real true h e =
       let is : Is s t = same_is (symbol t) s h in passed t ts is refl (ap (f true) (sym (after_is s t ts is)) ∙ e)
   ate_by b left ts real false h e = stayed (differs (symbol_at ts) s h) (ap (f false) (sym (after_other s ts h)) ∙ e)
 
   pub ate : (b : B) (left ts : List Lexeme) (real : End ≡ s → ⊥) → (eat s >>= f) ts ≡ Ok (b, left) → Ate s f ts b left
-  ate b left ts real e = ate_by b left ts real (sees s ts) refl e
+  ate b left ts real e = ate_by b left ts real (sees_symbol s ts) refl e
 
   pub eats : (t : Lexeme) (ts : List Lexeme) → Is s t → (eat s >>= f) (t ∷ ts) ≡ f true ts
   eats t ts h = ap (λ (b : Bool). f b (after s (t ∷ ts))) (sees_is s t ts h) ∙ ap (f true) (after_is s t ts h)
@@ -158,7 +161,8 @@ pub record Closed {A B : Type 0} (p : Parser A) (s : Symbol) (f : A → B) (b : 
   pub made : b ≡ f value
 
 module _ {A B : Type 0} where
-  pub closed : (p : Parser A) (s : Symbol) (f : A → B) (b : B) (from to : List Lexeme) → (p >>= (λ x. expect s >>= (λ _. pure (f x)))) from ≡ Ok (b, to) → Closed p s f b from to
+  pub closed : (p : Parser A) (s : Symbol) (f : A → B) (b : B) (from to : List Lexeme) → (p >>= (λ x. expect s >>= (λ _. pure (f x)))) from ≡ Ok (b, to) →
+      Closed p s f b from to
   closed p s f b from to e =
       let h = then_of (p from) (λ x. expect s >>= (λ _. pure (f x))) b to e in
       let g = takes s h.middle (λ _. pure (f h.value)) b to h.second in
@@ -180,7 +184,7 @@ after-le_by ts false = omega arith
 -- passing a symbol leaves no more tokens
 pub after-le : (s : Symbol) (ts : List Lexeme) → length (after s ts) ≤ length ts
 unfolding after
-after-le s ts = after-le_by ts (sees s ts)
+after-le s ts = after-le_by ts (sees_symbol s ts)
 
 pub rest-le : (ts : List Lexeme) → length (rest ts) ≤ length ts
 unfolding rest
@@ -189,19 +193,20 @@ rest-le (t ∷ ts) = omega arith
 
 module _ {A : Type 0} where
   -- a derivation along equations
-  pub moved : (R : List Lexeme → List Lexeme → A → Type 0) {from other to left : List Lexeme} {a b : A} → from ≡ other → to ≡ left → a ≡ b → R other left b → R from to a
+  pub moved : (R : List Lexeme → List Lexeme → A → Type 0) {from other to left : List Lexeme} {a b : A} → from ≡ other → to ≡ left → a ≡ b →
+      R other left b → R from to a
   moved R p q r d = rw (p, q, r) d
 
 pub taken : (t : Lexeme) {ts us : List Lexeme} → ts ≡ us → t ∷ ts ≡ t ∷ us
 taken t e = ap (λ (xs : List Lexeme). t ∷ xs) e
 
-pub saw : (s : Symbol) (ts : List Lexeme) → sees s ts ≡ true → symbol_at ts ≡ s
-unfolding sees
+pub saw : (s : Symbol) (ts : List Lexeme) → sees_symbol s ts ≡ true → symbol_at ts ≡ s
+unfolding sees_symbol
 saw s ts h = same_is (symbol_at ts) s h
 
 -- what was seen is a token
-pub seen_some : (s : Symbol) (ts : List Lexeme) → (End ≡ s → ⊥) → sees s ts ≡ true → 0 < length ts
-unfolding sees symbol_at
+pub seen_some : (s : Symbol) (ts : List Lexeme) → (End ≡ s → ⊥) → sees_symbol s ts ≡ true → 0 < length ts
+unfolding sees_symbol symbol_at
 seen_some s [] real h = absurd (real (same_is End s h))
 seen_some s (t ∷ ts) real h = omega arith
 

@@ -6,7 +6,8 @@ use Rattle.dp_tokens.specs.declared.symbol.Symbol.TheVariants.{Name, End, Comma}
 use Rattle.dp_tokens.specs.Symbols.{symbol, symbol_at, Is}
 use Rattle.dp_parse.specs.Rules.{Nonterminal, Part, Word, Number, Of}
 use Rattle.dp_parse.specs.Begins.{Allows, Derived, Begins, BeginsParts, nothing, none, within, token, past}
-use Rattle.dp_tokens.specs.Steps.{Outcome, Parser, and_then, ◌>>=◌, pure, same_symbol, expect, eat, sees, after, many, many_by, separated, separated_by}
+use Rattle.dp_tokens.specs.Steps.{Outcome, Parser, parse_then, ◌>>=◌, pure, same_symbol, expect, eat, sees_symbol, after, many, many_by, separated}
+use Rattle.dp_tokens.specs.Steps.{separated_by}
 use Rattle.dp_tokens.specs.Steps as step
 use Rattle.dp_tokens.specs.Numbers as numbers
 use Rattle.dp_parse.proofs.StepLemmas.{pair, took, taking, same_is, differs, after_is, after_other}
@@ -19,10 +20,11 @@ Fails p parts = (from to : List Lexeme) → p from ≡ Err to → BeginsParts pa
 -- what reads one part
 pub record Reader {A : Type 0} (p : Parser A) (part : Part) : Type 0 where
   pub stuck : (parts : List Part) (from to : List Lexeme) → p from ≡ Err to → BeginsParts (part ∷ parts) from to
-  pub passes : (parts : List Part) (from middle to : List Lexeme) (a : A) → p from ≡ Ok (a, middle) → BeginsParts parts middle to → BeginsParts (part ∷ parts) from to
+  pub passes : (parts : List Part) (from middle to : List Lexeme) (a : A) → p from ≡ Ok (a, middle) → BeginsParts parts middle to →
+      BeginsParts (part ∷ parts) from to
 
 module _ {A B : Type 0} {p : Parser A} {part : Part} {parts : List Part} (r : Reader p part) (f : A → Parser B) (g : (a : A) → Fails (f a) parts) where
-  seq_by : (from to : List Lexeme) (o : Outcome A) → p from ≡ o → and_then o f ≡ Err to → BeginsParts (part ∷ parts) from to
+  seq_by : (from to : List Lexeme) (o : Outcome A) → p from ≡ o → parse_then o f ≡ Err to → BeginsParts (part ∷ parts) from to
   seq_by from to (Ok x) is e = r.passes parts from x.1 to x.0 is (g x.0 x.1 to e)
   seq_by from to (Err left) is e = let same : left ≡ to = cc e in r.stuck parts from to (is ∙ ap Err same)
 
@@ -31,9 +33,10 @@ module _ {A B : Type 0} {p : Parser A} {part : Part} {parts : List Part} (r : Re
   seq from to e = seq_by from to (p from) refl e
 
 -- a relation for what is stuck in a step, and for what is stuck behind it
-module _ {A B : Type 0} (p : Parser A) (f : A → Parser B) (R : List Lexeme → List Lexeme → Type 0) (stuck : (from to : List Lexeme) → p from ≡ Err to → R from to)
+module _ {A B : Type 0} (p : Parser A) (f : A → Parser B) (R : List Lexeme → List Lexeme → Type 0)
+    (stuck : (from to : List Lexeme) → p from ≡ Err to → R from to)
     (behind : (from middle to : List Lexeme) (a : A) → p from ≡ Ok (a, middle) → f a middle ≡ Err to → R from to) where
-  cases_by : (from to : List Lexeme) (o : Outcome A) → p from ≡ o → and_then o f ≡ Err to → R from to
+  cases_by : (from to : List Lexeme) (o : Outcome A) → p from ≡ o → parse_then o f ≡ Err to → R from to
   cases_by from to (Ok x) is e = behind from x.1 to x.0 is e
   cases_by from to (Err left) is e = let same : left ≡ to = cc e in stuck from to (is ∙ ap Err same)
 
@@ -56,7 +59,8 @@ expect_stuck s (u ∷ us) to e = stuck_by (same_symbol (symbol u) s) u us to e
 pub here : {parts : List Part} {from to : List Lexeme} → from ≡ to → BeginsParts parts from to
 here e = rw e none
 
-pub token_at : {p : Part} {parts : List Part} {t : Lexeme} {from middle to : List Lexeme} → from ≡ t ∷ middle → Allows p t → BeginsParts parts middle to → BeginsParts (p ∷ parts) from to
+pub token_at : {p : Part} {parts : List Part} {t : Lexeme} {from middle to : List Lexeme} → from ≡ t ∷ middle → Allows p t → BeginsParts parts middle to →
+    BeginsParts (p ∷ parts) from to
 token_at e a b = rw e (token a b)
 
 pub word : (s : Symbol) → Reader (expect s) (Word s)
@@ -65,7 +69,8 @@ word s = record {
   passes = λ parts from middle to a e b. let t = took s from a middle e in rw t.splits (token t.is b);
 }
 
-named_by : (from to : List Lexeme) (o : Outcome Lexeme) → expect Name from ≡ o → and_then o (λ t. pure (Rattle.dp_tokens.specs.Leaves.name_of t)) ≡ Err to → from ≡ to
+named_by : (from to : List Lexeme) (o : Outcome Lexeme) → expect Name from ≡ o → parse_then o (λ t. pure (Rattle.dp_tokens.specs.Leaves.name_of t))
+    ≡ Err to → from ≡ to
 named_by from to (Ok x) is e = absurd (cc)
 named_by from to (Err left) is e = let same : left ≡ to = cc e in expect_stuck Name from to (is ∙ ap Err same)
 
@@ -85,7 +90,7 @@ number_by from to (Some z) e = absurd (cc)
 
 pub number_stuck : (from to : List Lexeme) → numbers.number from ≡ Err to → from ≡ to
 unfolding numbers.number
-number_stuck from to e = number_by from to (numbers.next_number from) e
+number_stuck from to e = number_by from to (numbers.number_in_front from) e
 
 pub counted : Reader numbers.number Number
 counted = record {
@@ -93,7 +98,8 @@ counted = record {
   passes = λ parts from middle to a e b. let n = read_number from middle a e in rw n.splits (token {p = Number} (n.value, n.is) b);
 }
 
-pub reader : {A : Type 0} (n : Nonterminal) (p : Parser A) → ((from to : List Lexeme) (a : A) → p from ≡ Ok (a, to) → Derived n from to) → ((from to : List Lexeme) → p from ≡ Err to → Begins n from to) → Reader p (Of n)
+pub reader : {A : Type 0} (n : Nonterminal) (p : Parser A) → ((from to : List Lexeme) (a : A) → p from ≡ Ok (a, to) → Derived n from to) →
+    ((from to : List Lexeme) → p from ≡ Err to → Begins n from to) → Reader p (Of n)
 reader n p sound fails = record {
   stuck = λ parts from to e. within (fails from to e);
   passes = λ parts from middle to a e b. past (sound from middle a e) b;
@@ -105,22 +111,22 @@ pub data Eaten {B : Type 0} (s : Symbol) (f : Bool → Parser B) (ts : List Lexe
   stayed : (symbol_at ts ≡ s → ⊥) → f false ts ≡ o → Eaten s f ts o
 
 module _ {B : Type 0} (s : Symbol) (f : Bool → Parser B) where
-  eaten_by : (o : Outcome B) (ts : List Lexeme) (real : End ≡ s → ⊥) (there : Bool) → sees s ts ≡ there → f there (after s ts) ≡ o → Eaten s f ts o
-  unfolding sees symbol_at
+  eaten_by : (o : Outcome B) (ts : List Lexeme) (real : End ≡ s → ⊥) (there : Bool) → sees_symbol s ts ≡ there → f there (after s ts) ≡ o → Eaten s f ts o
+  unfolding sees_symbol symbol_at
   eaten_by o [] real true h e = absurd (real (same_is End s h))
   eaten_by o (t ∷ ts) real true h e =
       let is : Is s t = same_is (symbol t) s h in passed t ts is refl (ap (f true) (sym (after_is s t ts is)) ∙ e)
   eaten_by o ts real false h e = stayed (differs (symbol_at ts) s h) (ap (f false) (sym (after_other s ts h)) ∙ e)
 
   pub eaten : (o : Outcome B) (ts : List Lexeme) (real : End ≡ s → ⊥) → (eat s >>= f) ts ≡ o → Eaten s f ts o
-  eaten o ts real e = eaten_by o ts real (sees s ts) refl e
+  eaten o ts real e = eaten_by o ts real (sees_symbol s ts) refl e
 
 pub refused : {A : Type 0} {n : Nonterminal} (from to : List Lexeme) → step.refuse {A = A} from ≡ Err to → Begins n from to
 refused from to e = let same : from ≡ to = cc e in rw same nothing
 
 -- a reader of the whole parts, of which only the value is changed
 module _ {A B : Type 0} {p : Parser A} {parts : List Part} (fails : Fails p parts) (f : A → B) where
-  mapped_by : (from to : List Lexeme) (o : Outcome A) → p from ≡ o → and_then o (λ x. pure (f x)) ≡ Err to → BeginsParts parts from to
+  mapped_by : (from to : List Lexeme) (o : Outcome A) → p from ≡ o → parse_then o (λ x. pure (f x)) ≡ Err to → BeginsParts parts from to
   mapped_by from to (Ok x) is e = absurd (cc e)
   mapped_by from to (Err left) is e = let same : left ≡ to = cc e in fails from to (is ∙ ap Err same)
 
@@ -129,17 +135,18 @@ module _ {A B : Type 0} {p : Parser A} {parts : List Part} (fails : Fails p part
 
 -- a reader of several parts, before others
 module _ {A B C : Type 0} (f : A → Parser B) (g : B → Parser C) where
-  grouped_by : (o : Outcome A) → and_then (and_then o f) g ≡ and_then o (λ x. f x >>= g)
+  grouped_by : (o : Outcome A) → parse_then (parse_then o f) g ≡ parse_then o (λ x. f x >>= g)
   grouped_by (Ok x) = refl
   grouped_by (Err left) = refl
 
   pub grouped : (p : Parser A) (ts : List Lexeme) → ((p >>= f) >>= g) ts ≡ (p >>= (λ x. f x >>= g)) ts
   grouped p ts = grouped_by (p ts)
 
-pub regroup : {A B C : Type 0} (p : Parser A) (f : A → Parser B) (g : B → Parser C) {parts : List Part} → Fails (p >>= (λ x. f x >>= g)) parts → Fails ((p >>= f) >>= g) parts
+pub regroup : {A B C : Type 0} (p : Parser A) (f : A → Parser B) (g : B → Parser C) {parts : List Part} → Fails (p >>= (λ x. f x >>= g)) parts →
+    Fails ((p >>= f) >>= g) parts
 regroup p f g fails from to e = fails from to (sym (grouped f g p from) ∙ e)
 
-pub alone_by : {A : Type 0} (o : Outcome A) → and_then o (λ x. pure x) ≡ o
+pub alone_by : {A : Type 0} (o : Outcome A) → parse_then o (λ x. pure x) ≡ o
 alone_by (Ok x) = refl
 alone_by (Err left) = refl
 
@@ -152,11 +159,12 @@ abbrev pub FailsOr : {A : Type 0} → Parser A → List Part → List Part → T
 FailsOr p a b = (from to : List Lexeme) → p from ≡ Err to → BeginsParts a from to ⊎ BeginsParts b from to
 
 module _ {A B : Type 0} {p : Parser A} {part : Part} {a b : List Part} (r : Reader p part) (f : A → Parser B) (g : (x : A) → FailsOr (f x) a b) where
-  or_by : (from middle to : List Lexeme) (x : A) → p from ≡ Ok (x, middle) → BeginsParts a middle to ⊎ BeginsParts b middle to → BeginsParts (part ∷ a) from to ⊎ BeginsParts (part ∷ b) from to
+  or_by : (from middle to : List Lexeme) (x : A) → p from ≡ Ok (x, middle) → BeginsParts a middle to ⊎ BeginsParts b middle to → BeginsParts (part ∷ a) from to
+      ⊎ BeginsParts (part ∷ b) from to
   or_by from middle to x is (inl d) = inl (r.passes a from middle to x is d)
   or_by from middle to x is (inr d) = inr (r.passes b from middle to x is d)
 
-  seq_or_by : (from to : List Lexeme) (o : Outcome A) → p from ≡ o → and_then o f ≡ Err to → BeginsParts (part ∷ a) from to ⊎ BeginsParts (part ∷ b) from to
+  seq_or_by : (from to : List Lexeme) (o : Outcome A) → p from ≡ o → parse_then o f ≡ Err to → BeginsParts (part ∷ a) from to ⊎ BeginsParts (part ∷ b) from to
   seq_or_by from to (Ok x) is e = or_by from x.1 to x.0 is (g x.0 x.1 to e)
   seq_or_by from to (Err left) is e = let same : left ≡ to = cc e in inl (r.stuck a from to (is ∙ ap Err same))
 
@@ -166,12 +174,14 @@ module _ {A B : Type 0} {p : Parser A} {part : Part} {a b : List Part} (r : Read
 -- ---- lists: the first part is stuck, or one behind others
 
 module _ {A : Type 0} (n : Nonterminal) (item : Parser A) (first : (from to : List Lexeme) → item from ≡ Err to → Begins n from to) where
-  module _ (stops : List Lexeme → Bool) (next : (from middle to : List Lexeme) (x : A) → item from ≡ Ok (x, middle) → Begins n middle to → Begins n from to) where
+  module _ (stops : List Lexeme → Bool)
+      (next : (from middle to : List Lexeme) (x : A) → item from ≡ Ok (x, middle) → Begins n middle to → Begins n from to) where
     many_at : (again : List A → Parser (List A)) (goes : (found : List A) (from to : List Lexeme) → again found from ≡ Err to → Begins n from to)
         (found : List A) (from to : List Lexeme) (b : Bool) → many_by item again found b from ≡ Err to → Begins n from to
     many_at again goes found from to true h = absurd (cc h)
     many_at again goes found from to false h =
-        cases item (λ x. again (found ++ x ∷ [])) (Begins n) first (λ from middle to x e f. next from middle to x e (goes (found ++ x ∷ []) middle to f)) from to h
+        cases item (λ x. again (found ++ x ∷ [])) (Begins n) first (λ from middle to x e f. next from middle to x e
+        (goes (found ++ x ∷ []) middle to f)) from to h
 
     pub many_stuck : (k : ℕ) (found : List A) (from to : List Lexeme) → many stops item k found from ≡ Err to → Begins n from to
     unfolding many
@@ -181,8 +191,10 @@ module _ {A : Type 0} (n : Nonterminal) (item : Parser A) (first : (from to : Li
   -- with commas between them
   module _ (next : (from left to : List Lexeme) (t : Lexeme) (x : A) → item from ≡ Ok (x, t ∷ left) → Is Comma t → Begins n left to → Begins n from to) where
     next_at : (again : List A → Parser (List A)) (goes : (found : List A) (from to : List Lexeme) → again found from ≡ Err to → Begins n from to)
-        (from middle to : List Lexeme) (found : List A) (x : A) → item from ≡ Ok (x, middle) → Eaten Comma (separated_by again (found ++ x ∷ [])) middle (Err to) → Begins n from to
-    next_at again goes from middle to found x e (passed t left is splits h) = next from left to t x (e ∙ ap (λ (ts : List Lexeme). Ok (pair x ts)) splits) is (goes (found ++ x ∷ []) left to h)
+        (from middle to : List Lexeme) (found : List A) (x : A) → item from ≡ Ok (x, middle) → Eaten Comma (separated_by again (found ++ x ∷ [])) middle
+        (Err to) → Begins n from to
+    next_at again goes from middle to found x e (passed t left is splits h) =
+        next from left to t x (e ∙ ap (λ (ts : List Lexeme). Ok (pair x ts)) splits) is (goes (found ++ x ∷ []) left to h)
     next_at again goes from middle to found x e (stayed other h) = absurd (cc h)
 
     pub separated_stuck : (k : ℕ) (found : List A) (from to : List Lexeme) → separated item k found from ≡ Err to → Begins n from to

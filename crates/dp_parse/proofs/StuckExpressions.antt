@@ -10,14 +10,14 @@ use Rattle.dp_parse.specs.declared.level.Level.{Level}
 use Rattle.dp_parse.specs.declared.level.Level.TheVariants as level
 use Rattle.dp_parse.specs.declared.level.Join.{Join}
 use Rattle.dp_tokens.specs.Symbols.{symbol, symbol_at, Is}
-use Rattle.dp_parse.specs.Levels.{operands, joining, prefixing, joined}
+use Rattle.dp_parse.specs.Levels.{operands, joining, prefixing, joined_trees}
 use Rattle.dp_tokens.specs.Leaves.{name_of}
 use Rattle.dp_parse.specs.Expressions.{DerivesExpr}
 use Rattle.dp_parse.specs.Expressions as derives
 use Rattle.dp_parse.specs.Rules.{Expression, Expressions, Of}
 use Rattle.dp_parse.specs.Begins.{Begins, nothing, by, within, token, past}
 use Rattle.dp_parse.specs.Rules as rule
-use Rattle.dp_tokens.specs.Steps.{Outcome, Parser, and_then, rest}
+use Rattle.dp_tokens.specs.Steps.{Outcome, Parser, parse_then, rest}
 use Rattle.dp_parse.specs.steps.Operators.{join_at, prefix_at}
 use Rattle.dp_tokens.specs.Steps as step
 use Rattle.dp_parse.specs.steps.Expressions as read
@@ -26,24 +26,29 @@ use Rattle.dp_parse.proofs.LeafLemmas.{read_name}
 use Rattle.dp_parse.proofs.ExpressionSound.{own_is, sound_expression, sound_primary, sound_nested, sound_whole}
 use Rattle.dp_parse.proofs.Stuck.{Reader, seq, done, word, name_stuck, counted, reader, Eaten, passed, stayed, eaten, refused, separated_stuck}
 
-module _ (nested : Level → Parser RawExpr) (sound : (l : Level) → Sound (nested l) (DerivesExpr l)) (fails : (l : Level) (from to : List Lexeme) → nested l from ≡ Err to → Begins (Expression l) from to) where
+module _ (nested : Level → Parser RawExpr) (sound : (l : Level) → Sound (nested l) (DerivesExpr l))
+    (fails : (l : Level) (from to : List Lexeme) → nested l from ≡ Err to → Begins (Expression l) from to) where
   inner : (l : Level) → Reader (nested l) (Of (Expression l))
   inner l = reader (Expression l) (nested l) (λ from to a e. (a, sound l from to a e)) (fails l)
 
-  variable_at : (name : Lexeme) (from to : List Lexeme) → Is Name name → Eaten OpenBracket (read.variable_by nested (name_of name)) from (Err to) → Begins (Expression level.Primary) (name ∷ from) to
+  variable_at : (name : Lexeme) (from to : List Lexeme) → Is Name name → Eaten OpenBracket (read.variable_by nested (name_of name)) from (Err to) →
+      Begins (Expression level.Primary) (name ∷ from) to
   variable_at name from to is (passed t middle opens splits h) =
       rw splits (by rule.element (token is (token opens (seq (inner level.Or) _ (λ index. seq (word CloseBracket) _ (λ _. done)) middle to h))))
   variable_at name from to is (stayed other h) = absurd (cc h)
 
-  variable_stuck : (name : Lexeme) (from to : List Lexeme) → Is Name name → read.variable nested (name_of name) from ≡ Err to → Begins (Expression level.Primary) (name ∷ from) to
+  variable_stuck : (name : Lexeme) (from to : List Lexeme) → Is Name name → read.variable nested (name_of name) from ≡ Err to →
+      Begins (Expression level.Primary) (name ∷ from) to
   unfolding read.variable
   variable_stuck name from to is h = variable_at name from to is (eaten OpenBracket (read.variable_by nested (name_of name)) (Err to) from (λ k. cc k) h)
 
   parenthesized_stuck : (from to : List Lexeme) → read.parenthesized nested from ≡ Err to → Begins (Expression level.Primary) from to
   unfolding read.parenthesized
-  parenthesized_stuck from to h = by rule.parenthesized (seq (word OpenParen) _ (λ _. seq (inner level.Or) _ (λ inside. seq (word CloseParen) _ (λ _. done))) from to h)
+  parenthesized_stuck from to h =
+      by rule.parenthesized (seq (word OpenParen) _ (λ _. seq (inner level.Or) _ (λ inside. seq (word CloseParen) _ (λ _. done))) from to h)
 
-  named_at : (from to : List Lexeme) (o : Outcome TreeName) → step.name from ≡ o → and_then o (read.variable nested) ≡ Err to → Begins (Expression level.Primary) from to
+  named_at : (from to : List Lexeme) (o : Outcome TreeName) → step.name from ≡ o → parse_then o (read.variable nested) ≡ Err to →
+      Begins (Expression level.Primary) from to
   named_at from to (Ok x) is h =
       let n = read_name from x.1 x.0 is in
       rw n.splits (variable_stuck n.token x.1 to n.is (ap (λ (name : TreeName). read.variable nested name x.1) (sym n.called) ∙ h))
@@ -59,19 +64,24 @@ module _ (nested : Level → Parser RawExpr) (sound : (l : Level) → Sound (nes
   primary_stuck from to h = primary_at (symbol_at from) from to h
 
   -- a chain of operands of the level m goes on
-  module _ (l m : Level) (o : operands l ≡ Some m) (p : Parser RawExpr) (reads : Sound p (DerivesExpr m)) (stuck : (from to : List Lexeme) → p from ≡ Err to → Begins (Expression m) from to) where
+  module _ (l m : Level) (o : operands l ≡ Some m) (p : Parser RawExpr) (reads : Sound p (DerivesExpr m))
+      (stuck : (from to : List Lexeme) → p from ≡ Err to → Begins (Expression m) from to) where
     abbrev Goes : (RawExpr → Parser RawExpr) → Type 0
-    Goes again = (from middle to : List Lexeme) (found : RawExpr) → DerivesExpr l from middle found → again found middle ≡ Err to → Begins (Expression l) from to
+    Goes again = (from middle to : List Lexeme) (found : RawExpr) → DerivesExpr l from middle found → again found middle ≡ Err to →
+        Begins (Expression l) from to
 
-    operand_at : (again : RawExpr → Parser RawExpr) → Goes again → (op : Lexeme) (join : Join) → joining (symbol op) ≡ Some (l, join) → (middle from to : List Lexeme) (found : RawExpr) → DerivesExpr l from (op ∷ middle) found →
-        (r : Outcome RawExpr) → p middle ≡ r → and_then r (λ right. again (joined join found right)) ≡ Err to → Begins (Expression l) from to
-    operand_at again goes op join j middle from to found d (Ok x) is h = goes from x.1 to (joined join found x.0) (derives.chain j o d (reads middle x.1 x.0 is)) h
+    operand_at : (again : RawExpr → Parser RawExpr) → Goes again → (op : Lexeme) (join : Join) → joining (symbol op) ≡ Some (l, join) →
+        (middle from to : List Lexeme) (found : RawExpr) → DerivesExpr l from (op ∷ middle) found →
+        (r : Outcome RawExpr) → p middle ≡ r → parse_then r (λ right. again (joined_trees join found right)) ≡ Err to → Begins (Expression l) from to
+    operand_at again goes op join j middle from to found d (Ok x) is h =
+        goes from x.1 to (joined_trees join found x.0) (derives.chain j o d (reads middle x.1 x.0 is)) h
     operand_at again goes op join j middle from to found d (Err left) is h =
         let same : left ≡ to = cc h in
         by (rule.chain {s = symbol op} j o) (past (found, d) (token refl (within (stuck middle to (is ∙ ap Err same)))))
 
     longer_stuck : (again : RawExpr → Parser RawExpr) → Goes again → (middle : List Lexeme) (j : Option Join) → join_at l (symbol_at middle) ≡ j →
-        (from to : List Lexeme) (found : RawExpr) → DerivesExpr l from middle found → read.longer again p found j middle ≡ Err to → Begins (Expression l) from to
+        (from to : List Lexeme) (found : RawExpr) → DerivesExpr l from middle found → read.longer again p found j middle ≡ Err to →
+        Begins (Expression l) from to
     unfolding join_at symbol_at rest
     longer_stuck again goes middle None is from to found d h = absurd (cc h)
     longer_stuck again goes [] (Some join) is from to found d h = absurd (cc is)
@@ -84,11 +94,13 @@ module _ (nested : Level → Parser RawExpr) (sound : (l : Level) → Sound (nes
     chain_stuck (suc n) from middle to found d h =
         longer_stuck (read.chain l p n) (chain_stuck n) middle (join_at l (symbol_at middle)) refl from to found d h
 
-    first_at : (from to : List Lexeme) (r : Outcome RawExpr) → p from ≡ r → and_then r (λ first. λ ts. read.chain l p (length ts) first ts) ≡ Err to → Begins (Expression l) from to
+    first_at : (from to : List Lexeme) (r : Outcome RawExpr) → p from ≡ r → parse_then r (λ first. λ ts. read.chain l p (length ts) first ts) ≡ Err to →
+        Begins (Expression l) from to
     first_at from to (Ok x) is h = chain_stuck (length x.1) from x.1 to x.0 (derives.operand o (reads from x.1 x.0 is)) h
     first_at from to (Err left) is h = let same : left ≡ to = cc h in by (rule.operand o) (within (stuck from to (is ∙ ap Err same)))
 
-    level_at : (from to : List Lexeme) (s : Option UnOp) → prefix_at l (symbol_at from) ≡ s → read.level_by nested l p s from ≡ Err to → Begins (Expression l) from to
+    level_at : (from to : List Lexeme) (s : Option UnOp) → prefix_at l (symbol_at from) ≡ s → read.level_by nested l p s from ≡ Err to →
+        Begins (Expression l) from to
     unfolding prefix_at symbol_at rest
     level_at from to None is h = first_at from to (p from) refl h
     level_at [] to (Some op) is h = absurd (cc is)

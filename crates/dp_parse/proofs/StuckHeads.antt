@@ -12,7 +12,7 @@ use Rattle.dp_tokens.specs.Leaves.{name_of}
 use Rattle.dp_parse.specs.Rules.{Part, Word, Of, Expression, Simple, First, Head}
 use Rattle.dp_parse.specs.Begins.{Begins, BeginsParts, nothing, by, within, token}
 use Rattle.dp_parse.specs.Rules as rule
-use Rattle.dp_tokens.specs.Steps.{Parser, ◌>>=◌, pure, expect, sees}
+use Rattle.dp_tokens.specs.Steps.{Parser, ◌>>=◌, pure, expect, sees_symbol}
 use Rattle.dp_tokens.specs.Steps as step
 use Rattle.dp_parse.specs.steps.Expressions as expr
 use Rattle.dp_parse.specs.steps.Heads as read
@@ -27,17 +27,26 @@ module _ {B : Type 0} (rest : List Part) where
   unfolding read.value
   value_then f goes = regroup (expect Assign) (λ _. expr.whole) f (seq (word Assign) _ (λ _. seq stuck.expr _ goes))
 
-  pub declare_then : (f : RawStmt → Parser B) → ((s : RawStmt) → Fails (f s) rest) → Fails (read.declare >>= f) (Word Int ∷ Word Name ∷ Word Assign ∷ Of (Expression Or) ∷ rest)
+  pub declare_then : (f : RawStmt → Parser B) → ((s : RawStmt) → Fails (f s) rest) →
+      Fails (read.declare >>= f) (Word Int ∷ Word Name ∷ Word Assign ∷ Of (Expression Or) ∷ rest)
   unfolding read.declare
   declare_then f goes =
-      regroup (expect Int) _ f (seq (word Int) _ (λ int. regroup step.name _ f (seq called _ (λ name. regroup read.value _ f (value_then _ (λ e. goes (tree.Declare int.line name e)))))))
+      regroup (expect Int) _ f
+      (seq (word Int) _ (λ int. regroup step.name _ f
+      (seq called _ (λ name. regroup read.value _ f (value_then _ (λ e. goes (tree.Declare int.line name e)))))))
 
-  store_then : (name : TreeName) (f : RawStmt → Parser B) → ((s : RawStmt) → Fails (f s) rest) → Fails (read.store name >>= f) (Word OpenBracket ∷ Of (Expression Or) ∷ Word CloseBracket ∷ Word Assign ∷ Of (Expression Or) ∷ rest)
+  store_then : (name : TreeName) (f : RawStmt → Parser B) → ((s : RawStmt) → Fails (f s) rest) →
+      Fails (read.store name >>= f) (Word OpenBracket ∷ Of (Expression Or) ∷ Word CloseBracket ∷ Word Assign ∷ Of (Expression Or) ∷ rest)
   unfolding read.store
   store_then name f goes =
-      regroup (expect OpenBracket) _ f (seq (word OpenBracket) _ (λ _. regroup expr.whole _ f (seq stuck.expr _ (λ index. regroup (expect CloseBracket) _ f (seq (word CloseBracket) _ (λ _. regroup read.value _ f (value_then _ (λ e. goes (tree.Store name index e)))))))))
+      regroup (expect OpenBracket) _ f
+      (seq (word OpenBracket) _
+      (λ _. regroup expr.whole _ f
+      (seq stuck.expr _ (λ index. regroup (expect CloseBracket) _ f
+      (seq (word CloseBracket) _ (λ _. regroup read.value _ f (value_then _ (λ e. goes (tree.Store name index e)))))))))
 
-  scalar_then : (name : TreeName) (f : RawStmt → Parser B) → ((s : RawStmt) → Fails (f s) rest) → Fails ((read.value >>= (λ e. pure (tree.Assign name e))) >>= f) (Word Assign ∷ Of (Expression Or) ∷ rest)
+  scalar_then : (name : TreeName) (f : RawStmt → Parser B) → ((s : RawStmt) → Fails (f s) rest) →
+      Fails ((read.value >>= (λ e. pure (tree.Assign name e))) >>= f) (Word Assign ∷ Of (Expression Or) ∷ rest)
   scalar_then name f goes = regroup read.value _ f (value_then _ (λ e. goes (tree.Assign name e)))
 
 -- an assignment, behind its name
@@ -52,7 +61,7 @@ module _ {B : Type 0} (rest : List Part) (name : TreeName) (f : RawStmt → Pars
 
   pub assign_then : (from to : List Lexeme) → (read.assign name >>= f) from ≡ Err to → Assigned rest from to
   unfolding read.assign
-  assign_then from to h = assign_at (sees OpenBracket from) from to h
+  assign_then from to h = assign_at (sees_symbol OpenBracket from) from to h
 
 assigned : (name : Lexeme) (from to : List Lexeme) → Is Name name → Assigned [] from to → Begins Simple (name ∷ from) to
 assigned name from to is (scalar b) = by rule.scalar_assigned (token is b)
@@ -73,7 +82,7 @@ first_at false from to h = by rule.simple (within (simple_stuck from to h))
 
 first_stuck : (from to : List Lexeme) → read.first from ≡ Err to → Begins First from to
 unfolding read.first
-first_stuck from to h = first_at (sees Int from) from to h
+first_stuck from to h = first_at (sees_symbol Int from) from to h
 
 simple : Reader read.simple (Of Simple)
 simple = reader Simple read.simple (λ from to a e. (a, sound_simple from to a e)) simple_stuck
@@ -84,7 +93,9 @@ first = reader First read.first (λ from to a e. (a, sound_first from to a e)) f
 pub head_stuck : (from to : List Lexeme) → read.head from ≡ Err to → Begins Head from to
 unfolding read.head
 head_stuck from to h =
-    by rule.head (seq (word OpenParen) _ (λ _. seq first _ (λ first. seq (word Semicolon) _ (λ _. seq stuck.expr _ (λ cond. seq (word Semicolon) _ (λ _. seq simple _ (λ step. seq (word CloseParen) _ (λ _. done))))))) from to h)
+    by rule.head (seq (word OpenParen) _
+    (λ _. seq first _ (λ first. seq (word Semicolon) _
+    (λ _. seq stuck.expr _ (λ cond. seq (word Semicolon) _ (λ _. seq simple _ (λ step. seq (word CloseParen) _ (λ _. done))))))) from to h)
 
 pub head : Reader read.head (Of Head)
 head = reader Head read.head (λ from to a e. let k = read_head from to a e in (k.first, k.cond, k.step, k.derives)) head_stuck

@@ -12,7 +12,7 @@ use Rattle.dp_tokens.specs.Leaves.{name_of}
 use Rattle.dp_parse.specs.Rules.{Part, Word, Number, Length, Of, Names, Params, Item, Block}
 use Rattle.dp_parse.specs.Begins.{Begins, BeginsParts, by, none, within, token}
 use Rattle.dp_parse.specs.Rules as rule
-use Rattle.dp_tokens.specs.Steps.{Outcome, ◌>>=◌, ◌>>◌, pure, and_then, expect, sees, rest, given, separated}
+use Rattle.dp_tokens.specs.Steps.{Outcome, ◌>>=◌, ◌>>◌, pure, parse_then, expect, sees_symbol, rest, given, separated}
 use Rattle.dp_tokens.specs.Steps as step
 use Rattle.dp_tokens.specs.Numbers as numbers
 use Rattle.dp_parse.specs.steps.Statements as statements
@@ -46,7 +46,7 @@ params_at false from to h = params_eaten from to (eaten Void read.named_params_b
 
 pub params_stuck : (from to : List Lexeme) → read.params from ≡ Err to → Begins Params from to
 unfolding read.params
-params_stuck from to h = params_at (sees CloseParen from) from to h
+params_stuck from to h = params_at (sees_symbol CloseParen from) from to h
 
 given_params : Reader read.params (Of Params)
 given_params = reader Params read.params (λ from to a e. (a, sound_params from to a e)) params_stuck
@@ -54,47 +54,56 @@ given_params = reader Params read.params (λ from to a e. (a, sound_params from 
 body : Reader (λ ts. statements.block (statements.statement (length ts)) ts) (Of Block)
 body = reader Block (λ ts. statements.block (statements.statement (length ts)) ts)
     (λ from to a e. (a, sound_block (statements.statement (length from)) (sound_statement (length from)) from to a e))
-    (λ from to e. block_stuck (statements.statement (length from)) (sound_statement (length from)) (statement_stuck (length from)) (if_stuck (length from)) from to e)
+    (λ from to e. block_stuck (statements.statement (length from)) (sound_statement (length from)) (statement_stuck (length from))
+    (if_stuck (length from)) from to e)
 
 -- a function, behind its `void`
 pub function_stuck : (void : Lexeme) (from to : List Lexeme) → Is Void void → read.function from ≡ Err to → Begins Item (void ∷ from) to
 unfolding read.function
 function_stuck void from to v h =
-    by rule.function (token v (seq called _ (λ name. seq (word OpenParen) _ (λ _. seq given_params _ (λ params. seq (word CloseParen) _ (λ _. seq body _ (λ body. done))))) from to h))
+    by rule.function (token v
+    (seq called _ (λ name. seq (word OpenParen) _ (λ _. seq given_params _ (λ params. seq (word CloseParen) _ (λ _. seq body _ (λ body. done))))) from to h))
 
 -- ---- variables at file scope, behind their `int` and their name
 
 -- the semicolon of a declaration that was read so far
-ended : {parts : List Part} (found : RawItem) (middle to : List Lexeme) → (expect Semicolon >>= (λ _. pure found)) middle ≡ Err to → BeginsParts (Word Semicolon ∷ parts) middle to
+ended : {parts : List Part} (found : RawItem) (middle to : List Lexeme) → (expect Semicolon >>= (λ _. pure found)) middle ≡ Err to →
+    BeginsParts (Word Semicolon ∷ parts) middle to
 ended found middle to h = seq (word Semicolon) _ (λ _. done) middle to h
 
 abbrev finish : Outcome RawItem → Outcome RawItem
-finish o = and_then o (λ found. expect Semicolon >>= (λ _. pure found))
+finish o = parse_then o (λ found. expect Semicolon >>= (λ _. pure found))
 
-length_at : (name : TreeName) (from to : List Lexeme) (b : Bool) → numbers.sees_zero from ≡ b → finish (read.array_by name b from) ≡ Err to → BeginsParts (Length ∷ Word CloseBracket ∷ Word Semicolon ∷ []) from to
+length_at : (name : TreeName) (from to : List Lexeme) (b : Bool) → numbers.sees_zero from ≡ b → finish (read.array_by name b from) ≡ Err to →
+    BeginsParts (Length ∷ Word CloseBracket ∷ Word Semicolon ∷ []) from to
 length_at name from to true seen h = let same : from ≡ to = cc h in rw same none
 length_at name from to false seen h = counted_length (numbers.number from) refl h
   where
-    behind : (z : ℤ) (middle to : List Lexeme) → finish ((expect CloseBracket >>= (λ _. pure (item.Array name z))) middle) ≡ Err to → BeginsParts (Word CloseBracket ∷ Word Semicolon ∷ []) middle to
+    behind : (z : ℤ) (middle to : List Lexeme) → finish ((expect CloseBracket >>= (λ _. pure (item.Array name z))) middle) ≡ Err to →
+        BeginsParts (Word CloseBracket ∷ Word Semicolon ∷ []) middle to
     behind z middle to h = closing (expect CloseBracket middle) refl h
       where
-        closing : (o : Outcome Lexeme) → expect CloseBracket middle ≡ o → finish (and_then o (λ _. pure (item.Array name z))) ≡ Err to → BeginsParts (Word CloseBracket ∷ Word Semicolon ∷ []) middle to
+        closing : (o : Outcome Lexeme) → expect CloseBracket middle ≡ o → finish (parse_then o (λ _. pure (item.Array name z))) ≡ Err to →
+            BeginsParts (Word CloseBracket ∷ Word Semicolon ∷ []) middle to
         closing (Ok x) is h = (word CloseBracket).passes (Word Semicolon ∷ []) middle x.1 to x.0 is (ended (item.Array name z) x.1 to h)
         closing (Err left) is h = let same : left ≡ to = cc h in (word CloseBracket).stuck (Word Semicolon ∷ []) middle to (is ∙ ap Err same)
 
-    counted_length : (o : Outcome ℤ) → numbers.number from ≡ o → finish (and_then o (λ z. expect CloseBracket >>= (λ _. pure (item.Array name z)))) ≡ Err to → BeginsParts (Length ∷ Word CloseBracket ∷ Word Semicolon ∷ []) from to
+    counted_length : (o : Outcome ℤ) → numbers.number from ≡ o → finish (parse_then o (λ z. expect CloseBracket >>= (λ _. pure (item.Array name z)))) ≡ Err to →
+        BeginsParts (Length ∷ Word CloseBracket ∷ Word Semicolon ∷ []) from to
     counted_length (Ok x) is h =
         let n = read_number from x.1 x.0 is in
         let zero : is_zero (pos n.value) ≡ false = sym (sees_of n.token n.value x.1 n.is) ∙ ap numbers.sees_zero (sym n.splits) ∙ seen in
         rw n.splits (token {p = Length} (n.value, n.is, nonzero_is (pos n.value) n.value refl zero) (behind x.0 x.1 to h))
     counted_length (Err left) is h = let same : left ≡ to = cc h in rw (number_stuck from to (is ∙ ap Err same)) none
 
-array_at : (name : TreeName) (from to : List Lexeme) (o : Outcome Lexeme) → expect OpenBracket from ≡ o → finish (and_then o (λ _. λ ts. read.array_by name (numbers.sees_zero ts) ts)) ≡ Err to →
+array_at : (name : TreeName) (from to : List Lexeme) (o : Outcome Lexeme) → expect OpenBracket from ≡ o →
+    finish (parse_then o (λ _. λ ts. read.array_by name (numbers.sees_zero ts) ts)) ≡ Err to →
     BeginsParts (Word OpenBracket ∷ Length ∷ Word CloseBracket ∷ Word Semicolon ∷ []) from to
 array_at name from to (Ok x) is h = (word OpenBracket).passes _ from x.1 to x.0 is (length_at name x.1 to (numbers.sees_zero x.1) refl h)
 array_at name from to (Err left) is h = let same : left ≡ to = cc h in (word OpenBracket).stuck _ from to (is ∙ ap Err same)
 
-array_fails : (name : TreeName) (from to : List Lexeme) → finish (read.array name from) ≡ Err to → BeginsParts (Word OpenBracket ∷ Length ∷ Word CloseBracket ∷ Word Semicolon ∷ []) from to
+array_fails : (name : TreeName) (from to : List Lexeme) → finish (read.array name from) ≡ Err to →
+    BeginsParts (Word OpenBracket ∷ Length ∷ Word CloseBracket ∷ Word Semicolon ∷ []) from to
 unfolding read.array
 array_fails name from to h = array_at name from to (expect OpenBracket from) refl h
 
@@ -103,13 +112,16 @@ module _ (int name equals : Lexeme) (i : Is Int int) (n : Is Name name) (q : Is 
   Front from to = Begins Item (int ∷ name ∷ equals ∷ from) to
 
   abbrev of_start : Outcome ℤ → Outcome RawItem
-  of_start o = finish (and_then o (λ z. pure (item.Scalar (name_of name) z)))
+  of_start o = finish (parse_then o (λ z. pure (item.Scalar (name_of name) z)))
 
-  start_read : (from middle to : List Lexeme) (z : ℤ) → Start from middle z → (expect Semicolon >>= (λ _. pure (item.Scalar (name_of name) z))) middle ≡ Err to → Front from to
-  start_read from middle to z (plain t v h splits same) e = by rule.started (token i (token n (token q (token_at {p = Number} splits (v, h) (ended _ middle to e)))))
-  start_read from middle to z (below minus t v m h splits same) e = by rule.below_zero (token i (token n (token q (token_at splits m (token {p = Number} (v, h) (ended _ middle to e))))))
+  start_read : (from middle to : List Lexeme) (z : ℤ) → Start from middle z → (expect Semicolon >>= (λ _. pure (item.Scalar (name_of name) z))) middle
+      ≡ Err to → Front from to
+  start_read from middle to z (plain t v h splits same) e =
+      by rule.started (token i (token n (token q (token_at {p = Number} splits (v, h) (ended _ middle to e)))))
+  start_read from middle to z (below minus t v m h splits same) e =
+      by rule.below_zero (token i (token n (token q (token_at splits m (token {p = Number} (v, h) (ended _ middle to e))))))
 
-  turned : (from to : List Lexeme) (o : Outcome ℤ) → numbers.number from ≡ o → and_then o (λ z. given (numbers.negated z)) ≡ Err to → from ≡ to
+  turned : (from to : List Lexeme) (o : Outcome ℤ) → numbers.number from ≡ o → parse_then o (λ z. given (numbers.negated z)) ≡ Err to → from ≡ to
   turned from to (Ok x) is h =
       let m = read_number from x.1 x.0 is in
       let good : numbers.negated x.0 ≡ Some _ = ap numbers.negated m.reads ∙ turns m.value m.is.fits in
@@ -117,7 +129,8 @@ module _ (int name equals : Lexeme) (i : Is Int int) (n : Is Name name) (q : Is 
   turned from to (Err left) is h = let same : left ≡ to = cc h in number_stuck from to (is ∙ ap Err same)
 
   start_eaten : (from to : List Lexeme) → Eaten Minus read.start_by from (Err to) → Front from to
-  start_eaten from to (passed t middle m splits h) = by rule.below_zero (token i (token n (token q (token_at splits m (here (turned middle to (numbers.number middle) refl h))))))
+  start_eaten from to (passed t middle m splits h) =
+      by rule.below_zero (token i (token n (token q (token_at splits m (here (turned middle to (numbers.number middle) refl h))))))
   start_eaten from to (stayed other h) = by rule.started (token i (token n (token q (here (number_stuck from to h)))))
 
   start_stuck : (from to : List Lexeme) → read.start from ≡ Err to → Front from to
@@ -134,16 +147,19 @@ unfolding symbol_at rest
 assigned int name [] to at i n h = absurd (cc at)
 assigned int name (t ∷ from) to at i n h = started_at int name t i n at from to (read.start from) refl h
 
-variable_at : (int name : Lexeme) (k : Symbol) (from to : List Lexeme) → symbol_at from ≡ k → Is Int int → Is Name name → finish (read.variable_by (name_of name) k from) ≡ Err to → Begins Item (int ∷ name ∷ from) to
+variable_at : (int name : Lexeme) (k : Symbol) (from to : List Lexeme) → symbol_at from ≡ k → Is Int int → Is Name name →
+    finish (read.variable_by (name_of name) k from) ≡ Err to → Begins Item (int ∷ name ∷ from) to
 variable_at int name OpenBracket from to at i n h = by rule.array (token i (token n (array_fails (name_of name) from to h)))
 variable_at int name Assign from to at i n h = assigned int name from to at i n h
 variable_at int name _ from to at i n h = by rule.variable (token i (token n (ended _ from to h)))
 
 named_at : (int : Lexeme) (from to : List Lexeme) (o : Outcome TreeName) → Is Int int → step.name from ≡ o →
-    and_then o (λ name. step.peek >>= (λ s. read.variable_by name s >>= (λ found. expect Semicolon >>= (λ _. pure found)))) ≡ Err to → Begins Item (int ∷ from) to
+    parse_then o (λ name. step.peek >>= (λ s. read.variable_by name s >>= (λ found. expect Semicolon >>= (λ _. pure found)))) ≡ Err to →
+    Begins Item (int ∷ from) to
 named_at int from to (Ok x) i is h =
     let n = read_name from x.1 x.0 is in
-    rw n.splits (variable_at int n.token (symbol_at x.1) x.1 to refl i n.is (ap (λ (name : TreeName). finish (read.variable_by name (symbol_at x.1) x.1)) (sym n.called) ∙ h))
+    rw n.splits (variable_at int n.token (symbol_at x.1) x.1 to refl i n.is (ap (λ (name : TreeName). finish (read.variable_by name (symbol_at x.1) x.1))
+    (sym n.called) ∙ h))
 named_at int from to (Err left) i is h = let same : left ≡ to = cc h in by rule.variable (token i (called.stuck _ from to (is ∙ ap Err same)))
 
 pub variable_stuck : (int : Lexeme) (from to : List Lexeme) → Is Int int → read.variable from ≡ Err to → Begins Item (int ∷ from) to

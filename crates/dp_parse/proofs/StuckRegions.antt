@@ -10,7 +10,7 @@ use Rattle.dp_parse.specs.Statements.{DerivesCondition}
 use Rattle.dp_parse.specs.Rules.{Part, Word, Of, Condition, Head, Statement, Choice, Block, Exit, Inside, Loop}
 use Rattle.dp_parse.specs.Begins.{Begins, BeginsParts, by, within, token, past}
 use Rattle.dp_parse.specs.Rules as rule
-use Rattle.dp_tokens.specs.Steps.{Outcome, Parser, ◌>>=◌, pure, and_then, expect, sees, many}
+use Rattle.dp_tokens.specs.Steps.{Outcome, Parser, ◌>>=◌, pure, parse_then, expect, sees_symbol, many}
 use Rattle.dp_parse.specs.steps.Statements as statements
 use Rattle.dp_parse.specs.steps.Regions as read
 use Rattle.dp_parse.proofs.StepLemmas.{took}
@@ -28,11 +28,14 @@ unfolding read.bare
 bare_fails line cond from to h = seq (word Break) _ (λ _. seq (word Semicolon) _ (λ _. done)) from to h
 
 module _ {B : Type 0} (line : ℕ) (cond : RawExpr) (f : RawStmt → Parser B) (parts : List Part) (fails : (s : RawStmt) → Fails (f s) parts) where
-  end_at : (from to : List Lexeme) (o : Outcome Lexeme) → expect Semicolon from ≡ o → and_then (and_then o (λ _. pure (tree.Break line cond))) f ≡ Err to → BeginsParts (Word Semicolon ∷ parts) from to
+  end_at : (from to : List Lexeme) (o : Outcome Lexeme) → expect Semicolon from ≡ o → parse_then (parse_then o (λ _. pure (tree.Break line cond))) f ≡ Err to →
+      BeginsParts (Word Semicolon ∷ parts) from to
   end_at from to (Ok x) is e = let t = took Semicolon from x.0 x.1 is in token_at t.splits t.is (fails (tree.Break line cond) x.1 to e)
   end_at from to (Err left) is e = let same : left ≡ to = cc e in here (expect_stuck Semicolon from to (is ∙ ap Err same))
 
-  bare_at : (from to : List Lexeme) (o : Outcome Lexeme) → expect Break from ≡ o → and_then (and_then o (λ _. expect Semicolon >>= (λ _. pure (tree.Break line cond)))) f ≡ Err to → BeginsParts (Word Break ∷ Word Semicolon ∷ parts) from to
+  bare_at : (from to : List Lexeme) (o : Outcome Lexeme) → expect Break from ≡ o →
+      parse_then (parse_then o (λ _. expect Semicolon >>= (λ _. pure (tree.Break line cond)))) f ≡ Err to →
+      BeginsParts (Word Break ∷ Word Semicolon ∷ parts) from to
   bare_at from to (Ok x) is e = let t = took Break from x.0 x.1 is in token_at t.splits t.is (end_at x.1 to (expect Semicolon x.1) refl e)
   bare_at from to (Err left) is e = let same : left ≡ to = cc e in here (expect_stuck Break from to (is ∙ ap Err same))
 
@@ -43,7 +46,8 @@ module _ {B : Type 0} (line : ℕ) (cond : RawExpr) (f : RawStmt → Parser B) (
 
 braced_fails : (line : ℕ) (cond : RawExpr) → Fails (read.braced line cond) (Word OpenBrace ∷ Word Break ∷ Word Semicolon ∷ Word CloseBrace ∷ [])
 unfolding read.braced
-braced_fails line cond from to h = seq (word OpenBrace) _ (λ _. bare_then line cond _ (Word CloseBrace ∷ []) (λ s. seq (word CloseBrace) _ (λ _. done))) from to h
+braced_fails line cond from to h =
+    seq (word OpenBrace) _ (λ _. bare_then line cond _ (Word CloseBrace ∷ []) (λ s. seq (word CloseBrace) _ (λ _. done))) from to h
 
 -- ---- statements of a region's body
 
@@ -53,10 +57,12 @@ pub data Begun (from to : List Lexeme) : Type 0 where
   leaves : Begins Exit from to → Begun from to
 
 module _ (n : ℕ) where
-  branches_fails : (line : ℕ) (cond : RawExpr) → FailsOr (read.branches (statements.statement n) line cond) (Of Block ∷ Word Else ∷ Of Block ∷ []) (Of Block ∷ Word Else ∷ Of Choice ∷ [])
+  branches_fails : (line : ℕ) (cond : RawExpr) → FailsOr (read.branches (statements.statement n) line cond) (Of Block ∷ Word Else ∷ Of Block ∷ [])
+      (Of Block ∷ Word Else ∷ Of Choice ∷ [])
   unfolding read.branches
   branches_fails line cond from to h =
-      seq_or (block (statements.statement n) (sound_statement n) (statement_stuck n) (if_stuck n)) _ (λ then_part. mapped_or (statements.statement n) (sound_statement n) (statement_stuck n) (if_stuck n)
+      seq_or (block (statements.statement n) (sound_statement n) (statement_stuck n) (if_stuck n)) _ (λ then_part. mapped_or (statements.statement n)
+      (sound_statement n) (statement_stuck n) (if_stuck n)
       (otherwise_fails (statements.statement n) (sound_statement n) (statement_stuck n) (if_stuck n)) _) from to h
 
   branched : (w : Lexeme) (from middle to : List Lexeme) (cond : RawExpr) → Is If w → DerivesCondition from middle cond →
@@ -64,19 +70,23 @@ module _ (n : ℕ) where
   branched w from middle to cond is d (inl b) = by rule.otherwise (token is (past (cond, d) b))
   branched w from middle to cond is d (inr b) = by rule.else_if (token is (past (cond, d) b))
 
-  tested_at : (w : Lexeme) (from middle to : List Lexeme) (cond : RawExpr) → Is If w → DerivesCondition from middle cond → (a b : Bool) → read.tested_by (statements.statement n) w.line cond a b middle ≡ Err to → Begun (w ∷ from) to
+  tested_at : (w : Lexeme) (from middle to : List Lexeme) (cond : RawExpr) → Is If w → DerivesCondition from middle cond → (a b : Bool) →
+      read.tested_by (statements.statement n) w.line cond a b middle ≡ Err to → Begun (w ∷ from) to
   tested_at w from middle to cond is d true b h = leaves (by rule.bare (token is (past (cond, d) (bare_fails w.line cond middle to h))))
   tested_at w from middle to cond is d false true h = leaves (by rule.braced (token is (past (cond, d) (braced_fails w.line cond middle to h))))
-  tested_at w from middle to cond is d false false h = plainly (by rule.choice (within (branched w from middle to cond is d (branches_fails w.line cond middle to h))))
+  tested_at w from middle to cond is d false false h =
+      plainly (by rule.choice (within (branched w from middle to cond is d (branches_fails w.line cond middle to h))))
 
-  tested_stuck : (w : Lexeme) (from middle to : List Lexeme) (cond : RawExpr) → Is If w → DerivesCondition from middle cond → read.tested (statements.statement n) w.line cond middle ≡ Err to → Begun (w ∷ from) to
+  tested_stuck : (w : Lexeme) (from middle to : List Lexeme) (cond : RawExpr) → Is If w → DerivesCondition from middle cond →
+      read.tested (statements.statement n) w.line cond middle ≡ Err to → Begun (w ∷ from) to
   unfolding read.tested
-  tested_stuck w from middle to cond is d h = tested_at w from middle to cond is d (sees Break middle) (read.leads_out middle) h
+  tested_stuck w from middle to cond is d h = tested_at w from middle to cond is d (sees_symbol Break middle) (read.leads_out middle) h
 
   abbrev If_Begun : Lexeme → List Lexeme → List Lexeme → Type 0
   If_Begun w from to = Begun (w ∷ from) to
 
-  behind_if : (w : Lexeme) (from to : List Lexeme) → Is If w → (statements.condition >>= read.tested (statements.statement n) w.line) from ≡ Err to → Begun (w ∷ from) to
+  behind_if : (w : Lexeme) (from to : List Lexeme) → Is If w → (statements.condition >>= read.tested (statements.statement n) w.line) from ≡ Err to
+      → Begun (w ∷ from) to
   behind_if w from to is h =
       cases statements.condition (read.tested (statements.statement n) w.line) (If_Begun w)
       (λ from to e. plainly (by rule.choice (within (by rule.alone (token is (within (condition_stuck from to e)))))))
@@ -95,7 +105,7 @@ module _ (n : ℕ) where
 
   pub inside_stuck : (from to : List Lexeme) → read.inside (statements.statement n) from ≡ Err to → Begun from to
   unfolding read.inside
-  inside_stuck from to h = inside_at (sees If from) from to h
+  inside_stuck from to h = inside_at (sees_symbol If from) from to h
 
   -- ---- bodies
 
@@ -110,10 +120,10 @@ module _ (n : ℕ) where
   further (plain d) b = by rule.statement_inside (past (_, d) (within b))
   further (leaving d) b = by rule.exit_inside (past (_, d) (within b))
 
-  insides : Reader (λ ts. many (sees CloseBrace) one (length ts) [] ts) (Of Inside)
-  insides = reader Inside (λ ts. many (sees CloseBrace) one (length ts) [] ts)
+  insides : Reader (λ ts. many (sees_symbol CloseBrace) one (length ts) [] ts) (Of Inside)
+  insides = reader Inside (λ ts. many (sees_symbol CloseBrace) one (length ts) [] ts)
       (λ from to a e. let m = many_inside (statements.statement n) (sound_statement n) (length from) from to [] a e in (m.0, m.2))
-      (λ from to e. many_stuck Inside one (λ from to e. begun (inside_stuck from to e)) (sees CloseBrace)
+      (λ from to e. many_stuck Inside one (λ from to e. begun (inside_stuck from to e)) (sees_symbol CloseBrace)
       (λ from middle to s e b. further (sound_inside (statements.statement n) (sound_statement n) from middle s e) b) (length from) [] from to e)
 
   body_stuck : (from to : List Lexeme) → read.body (statements.statement n) from ≡ Err to → Begins Loop from to
@@ -136,6 +146,7 @@ module _ (n : ℕ) where
   region_at parts true from to h = inr (counted_fails parts from to h)
   region_at parts false from to h = inl (repeated_fails parts from to h)
 
-  pub region_fails : (parts : List Part) → FailsOr (read.region (statements.statement n)) (Word While ∷ Of Condition ∷ Of Loop ∷ parts) (Word For ∷ Of Head ∷ Of Loop ∷ parts)
+  pub region_fails : (parts : List Part) → FailsOr (read.region (statements.statement n)) (Word While ∷ Of Condition ∷ Of Loop ∷ parts)
+      (Word For ∷ Of Head ∷ Of Loop ∷ parts)
   unfolding read.region
-  region_fails parts from to h = region_at parts (sees For from) from to h
+  region_fails parts from to h = region_at parts (sees_symbol For from) from to h

@@ -12,7 +12,8 @@ use Rattle.dp_parse.specs.Heads.{DerivesSimple, DerivesFirst, DerivesHead}
 use Rattle.dp_parse.specs.Statements.{DerivesArguments, DerivesCondition, DerivesStatement, DerivesChoice, DerivesBlock, DerivesStatements}
 use Rattle.dp_parse.specs.Regions.{DerivesExit, DerivesInside, DerivesLoop}
 use Rattle.dp_parse.specs.Programs.{DerivesNames, DerivesParams, DerivesItem, DerivesItems, DerivesTops, DerivesReturn, DerivesMain}
-use Rattle.dp_parse.specs.Rules.{Nonterminal, Expression, Expressions, Arguments, Condition, Simple, First, Head, Statement, Choice, Block, Statements, Exit, Inside, Loop, Names, Params, Item, Items, Tops, Ending, Body, Program, Part, Word, Number, Length, Zero, Of, Rule}
+use Rattle.dp_parse.specs.Rules.{Nonterminal, Expression, Expressions, Arguments, Condition, Simple, First, Head, Statement, Choice, Block, Statements, Exit}
+use Rattle.dp_parse.specs.Rules.{Inside, Loop, Names, Params, Item, Items, Tops, Ending, Body, Program, Part, Word, Number, Length, Zero, Of, Rule}
 
 -- a rule allows the token at the part's place
 abbrev pub Allows : Part → Lexeme → Type 0
@@ -59,4 +60,5 @@ mutual
     none : {parts : List Part} {to : List Lexeme} → BeginsParts parts to to
     within : {n : Nonterminal} {parts : List Part} {from to : List Lexeme} → Begins n from to → BeginsParts (Of n ∷ parts) from to
     token : {p : Part} {parts : List Part} {t : Lexeme} {from to : List Lexeme} → Allows p t → BeginsParts parts from to → BeginsParts (p ∷ parts) (t ∷ from) to
-    past : {n : Nonterminal} {parts : List Part} {from middle to : List Lexeme} → Derived n from middle → BeginsParts parts middle to → BeginsParts (Of n ∷ parts) from to
+    past : {n : Nonterminal} {parts : List Part} {from middle to : List Lexeme} → Derived n from middle → BeginsParts parts middle to →
+        BeginsParts (Of n ∷ parts) from to

@@ -5,16 +5,17 @@ use Rattle.dp_base.specs.declared.Quantity.TheVariants.{Nesting, Operators, Else
 use Rattle.dp_base.specs.declared.limits.TheConstants.{ELSE_IF, NESTING, OPERATORS}
 use Rattle.dp_lex.specs.Token.{Lexeme}
 use Rattle.dp_tokens.specs.declared.symbol.Symbol.{Symbol}
-use Rattle.dp_tokens.specs.declared.symbol.Symbol.TheVariants.{If, Else, Plus, Minus, Star, Slash, Percent, Not, Less, LessEqual, Greater, GreaterEqual, Equal, NotEqual, And, Or, OpenParen, OpenBracket, OpenBrace, CloseBrace, Semicolon}
+use Rattle.dp_tokens.specs.declared.symbol.Symbol.TheVariants.{If, Else, Plus, Minus, Star, Slash, Percent, Not, Less, LessEqual, Greater, GreaterEqual, Equal}
+use Rattle.dp_tokens.specs.declared.symbol.Symbol.TheVariants.{NotEqual, And, Or, OpenParen, OpenBracket, OpenBrace, CloseBrace, Semicolon}
 use Rattle.dp_tokens.specs.Symbols.{symbol}
 
 abbrev pub opens : Symbol → Bool
 opens OpenBrace = true
 opens _ = false
 
-abbrev pub closes : Symbol → Bool
-closes CloseBrace = true
-closes _ = false
+abbrev pub closes_brace : Symbol → Bool
+closes_brace CloseBrace = true
+closes_brace _ = false
 
 -- an operator or an opening bracket
 abbrev pub operates : Symbol → Bool
@@ -60,18 +61,18 @@ fronts [] = [] ∷ []
 fronts (s ∷ ss) = [] ∷ map (λ front. s ∷ front) (fronts ss)
 
 abbrev pub before_first : Bool → Symbol → List (List Symbol) → List (List Symbol)
-before_first true s pieces = [] ∷ pieces
+before_first true s symbol_pieces = [] ∷ symbol_pieces
 before_first false s [] = (s ∷ []) ∷ []
-before_first false s (piece ∷ pieces) = (s ∷ piece) ∷ pieces
+before_first false s (piece ∷ symbol_pieces) = (s ∷ piece) ∷ symbol_pieces
 
 -- the pieces between neighbouring separators, with the start and the end of the list as such
-abbrev pub pieces : List Symbol → List (List Symbol)
-pieces [] = [] ∷ []
-pieces (s ∷ ss) = before_first (separates s) s (pieces ss)
+abbrev pub symbol_pieces : List Symbol → List (List Symbol)
+symbol_pieces [] = [] ∷ []
+symbol_pieces (s ∷ ss) = before_first (separates s) s (symbol_pieces ss)
 
 -- the number of braces that are open after the front
 abbrev pub open_after : List Symbol → ℕ
-open_after front = count_by opens front - count_by closes front
+open_after front = count_by opens front - count_by closes_brace front
 
 abbrev pub begins_if : List Symbol → Bool
 begins_if [] = false
@@ -87,7 +88,7 @@ operators_after here s = if separates s then 0 else (if operates s then here + 1
 
 -- the most operators and opening brackets between neighbouring separators
 unfoldable pub operators : List Lexeme → ℕ
-operators tokens = largest (map (count_by operates) (pieces (map symbol tokens)))
+operators tokens = largest (map (count_by operates) (symbol_pieces (map symbol tokens)))
 
 abbrev pub else_ifs : List Symbol → ℕ
 else_ifs [] = 0

@@ -9,7 +9,7 @@ use Rattle.dp_parse.specs.declared.level.Level.{Level}
 use Rattle.dp_parse.specs.declared.level.Level.TheVariants.{Or, Primary}
 use Rattle.dp_parse.specs.declared.level.Join.{Join}
 use Rattle.dp_tokens.specs.Symbols.{symbol, Is}
-use Rattle.dp_parse.specs.Levels.{operands, joining, prefixing, joined}
+use Rattle.dp_parse.specs.Levels.{operands, joining, prefixing, joined_trees}
 use Rattle.dp_tokens.specs.Leaves.{name_of, IsNumber}
 
 -- The tokens of `from` up to `to` derive the expression at the level:
@@ -22,7 +22,7 @@ pub data DerivesExpr : Level → List Lexeme → List Lexeme → RawExpr → Typ
   -- a chain goes on by one operand: operators of one level group from the left
   chain : {l m : Level} {op : Lexeme} {join : Join} {from middle to : List Lexeme} {a b : RawExpr} →
       joining (symbol op) ≡ Some (l, join) → operands l ≡ Some m →
-      DerivesExpr l from (op ∷ middle) a → DerivesExpr m middle to b → DerivesExpr l from to (joined join a b)
+      DerivesExpr l from (op ∷ middle) a → DerivesExpr m middle to b → DerivesExpr l from to (joined_trees join a b)
   -- a prefix operator
   prefix : {l : Level} {op : Lexeme} {is : UnOp} {from to : List Lexeme} {e : RawExpr} →
       prefixing (symbol op) ≡ Some (l, is) → DerivesExpr l from to e → DerivesExpr l (op ∷ from) to (tree.Unary is e)

@@ -24,7 +24,8 @@ pub data DerivesSimple : List Lexeme → List Lexeme → RawStmt → Type 0 wher
 pub data DerivesFirst : List Lexeme → List Lexeme → RawStmt → Type 0 where
   -- "int" name "=" expr
   declared : {int name equals : Lexeme} {from to : List Lexeme} {e : RawExpr} →
-      Is Int int → Is Name name → Is Assign equals → DerivesExpr Or from to e → DerivesFirst (int ∷ name ∷ equals ∷ from) to (tree.Declare int.line (name_of name) e)
+      Is Int int → Is Name name → Is Assign equals → DerivesExpr Or from to e →
+      DerivesFirst (int ∷ name ∷ equals ∷ from) to (tree.Declare int.line (name_of name) e)
   simple : {from to : List Lexeme} {s : RawStmt} → DerivesSimple from to s → DerivesFirst from to s
 
 -- "(" first ";" expr ";" simple ")"

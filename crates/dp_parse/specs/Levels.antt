@@ -47,7 +47,7 @@ prefixing symbol.Not = Some (Unary, unary.Not)
 prefixing _ = None
 
 -- the tree that an infix operator makes of its operands' trees
-abbrev pub joined : Join → RawExpr → RawExpr → RawExpr
-joined join.Or a b = tree.Or a b
-joined join.And a b = tree.And a b
-joined (join.Binary op) a b = tree.Binary op a b
+abbrev pub joined_trees : Join → RawExpr → RawExpr → RawExpr
+joined_trees join.Or a b = tree.Or a b
+joined_trees join.And a b = tree.And a b
+joined_trees (join.Binary op) a b = tree.Binary op a b

@@ -15,7 +15,8 @@ pub data DerivesExit : List Lexeme → List Lexeme → RawStmt → Type 0 where
       Is If word → DerivesCondition from (leave ∷ end ∷ to) e → Is Break leave → Is Semicolon end → DerivesExit (word ∷ from) to (tree.Break word.line e)
   -- "if" "(" expr ")" "{" "break" ";" "}"
   braced : {word opening leave end closing : Lexeme} {from to : List Lexeme} {e : RawExpr} →
-      Is If word → DerivesCondition from (opening ∷ leave ∷ end ∷ closing ∷ to) e → Is OpenBrace opening → Is Break leave → Is Semicolon end → Is CloseBrace closing →
+      Is If word → DerivesCondition from (opening ∷ leave ∷ end ∷ closing ∷ to) e → Is OpenBrace opening → Is Break leave → Is Semicolon end →
+      Is CloseBrace closing →
       DerivesExit (word ∷ from) to (tree.Break word.line e)
 
 -- { statement | exit }

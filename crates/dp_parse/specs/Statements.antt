@@ -4,7 +4,8 @@ use Rattle.dp_lex.specs.Token.{Lexeme}
 use Rattle.dp_tree.specs.declared.raw.RawExpr.{RawExpr}
 use Rattle.dp_tree.specs.declared.raw.RawStmt.{RawStmt}
 use Rattle.dp_tree.specs.declared.raw.RawStmt.TheVariants as tree
-use Rattle.dp_tokens.specs.declared.symbol.Symbol.TheVariants.{Name, Int, Print, While, For, If, Else, Assign, OpenParen, CloseParen, OpenBracket, CloseBracket, OpenBrace, CloseBrace, Semicolon}
+use Rattle.dp_tokens.specs.declared.symbol.Symbol.TheVariants.{Name, Int, Print, While, For, If, Else, Assign, OpenParen, CloseParen, OpenBracket, CloseBracket}
+use Rattle.dp_tokens.specs.declared.symbol.Symbol.TheVariants.{OpenBrace, CloseBrace, Semicolon}
 use Rattle.dp_parse.specs.declared.level.Level.TheVariants.{Or}
 use Rattle.dp_tokens.specs.Symbols.{Is}
 use Rattle.dp_tokens.specs.Leaves.{name_of}

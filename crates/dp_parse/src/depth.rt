@@ -16,7 +16,7 @@ fn opens(symbol: Symbol) -> bool
 }
 
 fn closes(symbol: Symbol) -> bool
-    ensures { result ≡ spec.closes symbol }
+    ensures { result ≡ spec.closes_brace symbol }
 {
     matches!(symbol, Symbol::CloseBrace)
 }

@@ -2,7 +2,7 @@
 
 ghost use Rattle.std.specs.Prelude.{◌≡◌, IfOk};
 ghost use Rattle.dp_parse.specs.Levels as levels;
-ghost use Rattle.dp_tokens.specs.Steps.{Reads};
+ghost use Rattle.dp_tokens.specs.Steps.{ReadsPart};
 ghost use Rattle.dp_parse.specs.steps.Expressions as spec;
 
 use crate::level::{Join, Level, join_at, operands, prefix_at};
@@ -14,7 +14,7 @@ use std::alloc::Global;
 /// A whole expression.
 #[tactic(auto, unfolding(crate::specs::steps::Expressions::whole))]
 pub fn whole(alloc: Global, tokens: &mut Tokens<'_, '_>) -> Result<RawExpr, PartFail>
-    ensures { Reads (spec.whole tokens.old) result tokens.new }
+    ensures { ReadsPart (spec.whole tokens.old) result tokens.new }
 {
     // Each level of nesting takes a token.
     let depth = tokens.len();
@@ -29,7 +29,7 @@ fn nested(
     depth: usize,
     level: Level,
 ) -> Result<RawExpr, PartFail>
-    ensures { Reads (spec.nested depth level tokens.old) result tokens.new }
+    ensures { ReadsPart (spec.nested depth level tokens.old) result tokens.new }
 {
     if depth == 0 {
         return Err(PartFail::Refused);
@@ -45,7 +45,7 @@ fn expression(
     depth: usize,
     level: Level,
 ) -> Result<RawExpr, PartFail>
-    ensures { Reads (spec.expression (spec.nested depth) level tokens.old) result tokens.new }
+    ensures { ReadsPart (spec.expression (spec.nested depth) level tokens.old) result tokens.new }
 {
     let Some(inner) = operands(level) else {
         return primary(alloc, tokens, depth);
@@ -67,7 +67,7 @@ fn expression(
 #[cycle(expression)]
 #[tactic(auto, unfolding(crate::specs::steps::Expressions::primary, crate::specs::steps::Expressions::parenthesized))]
 fn primary(alloc: Global, tokens: &mut Tokens<'_, '_>, depth: usize) -> Result<RawExpr, PartFail>
-    ensures { Reads (spec.primary (spec.nested depth) tokens.old) result tokens.new }
+    ensures { ReadsPart (spec.primary (spec.nested depth) tokens.old) result tokens.new }
 {
     match tokens.peek() {
         Symbol::Number => Ok(RawExpr::Number(number(tokens)?)),
@@ -93,7 +93,7 @@ fn variable(
     depth: usize,
     name: Name,
 ) -> Result<RawExpr, PartFail>
-    ensures { Reads (spec.variable (spec.nested depth) name tokens.old) result tokens.new }
+    ensures { ReadsPart (spec.variable (spec.nested depth) name tokens.old) result tokens.new }
 {
     if !tokens.eat(Symbol::OpenBracket) {
         return Ok(RawExpr::Scalar(name));
@@ -110,7 +110,7 @@ fn prefixed(alloc: Global, op: UnOp, operand: RawExpr) -> Result<RawExpr, NoMemo
 }
 
 fn joined(alloc: Global, join: Join, left: RawExpr, right: RawExpr) -> Result<RawExpr, NoMemory>
-    ensures { IfOk result (λ e. e ≡ levels.joined join left right) }
+    ensures { IfOk result (λ e. e ≡ levels.joined_trees join left right) }
 {
     let left = Boxed::new(alloc, left)?;
     let right = Boxed::new(alloc, right)?;
@@ -123,7 +123,7 @@ fn joined(alloc: Global, join: Join, left: RawExpr, right: RawExpr) -> Result<Ra
 
 /// One expression or more, with commas between.
 pub fn list(alloc: Global, tokens: &mut Tokens<'_, '_>) -> Result<Row<RawExpr>, PartFail>
-    ensures { Reads (spec.list tokens.old) result tokens.new }
+    ensures { ReadsPart (spec.list tokens.old) result tokens.new }
 {
     let mut found = Row::new(alloc);
     loop {

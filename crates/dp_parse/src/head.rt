@@ -1,7 +1,7 @@
 //! Assignments and declarations without their semicolons, and what a `for` has in its parentheses.
 
 ghost use Rattle.std.specs.Prelude.{◌≡◌, IfOk, [], ◌∷◌};
-ghost use Rattle.dp_tokens.specs.Steps.{Reads};
+ghost use Rattle.dp_tokens.specs.Steps.{ReadsPart};
 ghost use Rattle.dp_parse.specs.steps.Heads as spec;
 
 use crate::expression::whole;
@@ -13,7 +13,7 @@ use std::alloc::Global;
 /// The value after a `=`.
 #[tactic(auto, unfolding(crate::specs::steps::Heads::value))]
 fn value(alloc: Global, tokens: &mut Tokens<'_, '_>) -> Result<RawExpr, PartFail>
-    ensures { Reads (spec.value tokens.old) result tokens.new }
+    ensures { ReadsPart (spec.value tokens.old) result tokens.new }
 {
     tokens.expect(Symbol::Assign)?;
     whole(alloc, tokens)
@@ -21,7 +21,7 @@ fn value(alloc: Global, tokens: &mut Tokens<'_, '_>) -> Result<RawExpr, PartFail
 
 #[tactic(auto, unfolding(crate::specs::steps::Heads::declare))]
 pub fn declare(alloc: Global, tokens: &mut Tokens<'_, '_>) -> Result<RawStmt, PartFail>
-    ensures { Reads (spec.declare tokens.old) result tokens.new }
+    ensures { ReadsPart (spec.declare tokens.old) result tokens.new }
 {
     let line = tokens.expect(Symbol::Int)?.line;
     let name = name(alloc, tokens)?;
@@ -32,7 +32,7 @@ pub fn declare(alloc: Global, tokens: &mut Tokens<'_, '_>) -> Result<RawStmt, Pa
 /// An assignment to an element, from its bracket on.
 #[tactic(auto, unfolding(crate::specs::steps::Heads::store))]
 fn store(alloc: Global, tokens: &mut Tokens<'_, '_>, name: Name) -> Result<RawStmt, PartFail>
-    ensures { Reads (spec.store name tokens.old) result tokens.new }
+    ensures { ReadsPart (spec.store name tokens.old) result tokens.new }
 {
     tokens.expect(Symbol::OpenBracket)?;
     let index = whole(alloc, tokens)?;
@@ -44,7 +44,7 @@ fn store(alloc: Global, tokens: &mut Tokens<'_, '_>, name: Name) -> Result<RawSt
 /// An assignment, from behind its name on.
 #[tactic(auto, unfolding(crate::specs::steps::Heads::assign))]
 pub fn assign(alloc: Global, tokens: &mut Tokens<'_, '_>, name: Name) -> Result<RawStmt, PartFail>
-    ensures { Reads (spec.assign name tokens.old) result tokens.new }
+    ensures { ReadsPart (spec.assign name tokens.old) result tokens.new }
 {
     if tokens.sees(Symbol::OpenBracket) {
         return store(alloc, tokens, name);
@@ -55,7 +55,7 @@ pub fn assign(alloc: Global, tokens: &mut Tokens<'_, '_>, name: Name) -> Result<
 
 #[tactic(auto, unfolding(crate::specs::steps::Heads::simple))]
 fn simple(alloc: Global, tokens: &mut Tokens<'_, '_>) -> Result<RawStmt, PartFail>
-    ensures { Reads (spec.simple tokens.old) result tokens.new }
+    ensures { ReadsPart (spec.simple tokens.old) result tokens.new }
 {
     let name = name(alloc, tokens)?;
     assign(alloc, tokens, name)
@@ -64,7 +64,7 @@ fn simple(alloc: Global, tokens: &mut Tokens<'_, '_>) -> Result<RawStmt, PartFai
 /// The initialiser of a `for`.
 #[tactic(auto, unfolding(crate::specs::steps::Heads::first))]
 fn first(alloc: Global, tokens: &mut Tokens<'_, '_>) -> Result<RawStmt, PartFail>
-    ensures { Reads (spec.first tokens.old) result tokens.new }
+    ensures { ReadsPart (spec.first tokens.old) result tokens.new }
 {
     if tokens.sees(Symbol::Int) {
         return declare(alloc, tokens);
@@ -116,7 +116,7 @@ impl Header {
 
 #[tactic(auto, unfolding(crate::specs::steps::Heads::head))]
 pub fn head(alloc: Global, tokens: &mut Tokens<'_, '_>) -> Result<Header, PartFail>
-    ensures { Reads (spec.head tokens.old) result tokens.new }
+    ensures { ReadsPart (spec.head tokens.old) result tokens.new }
 {
     tokens.expect(Symbol::OpenParen)?;
     let first = only(alloc, first(alloc, tokens)?)?;

@@ -2,7 +2,7 @@
 
 ghost use Rattle.std.specs.Prelude.{◌≡◌, ◌≢◌, Err};
 ghost use Rattle.dp_tokens.specs.declared.fail.PartFail.TheVariants as fail;
-ghost use Rattle.dp_tokens.specs.Steps.{Reads};
+ghost use Rattle.dp_tokens.specs.Steps.{ReadsPart};
 ghost use Rattle.dp_parse.specs.steps.Programs as spec;
 
 use crate::region::region;
@@ -15,7 +15,7 @@ use std::alloc::Global;
 /// The start value after a `=`, with its sign.
 #[tactic(auto, unfolding(crate::specs::steps::Programs::start))]
 fn start(tokens: &mut Tokens<'_, '_>) -> Result<i64, PartFail>
-    ensures reads { Reads (spec.start tokens.old) result tokens.new }
+    ensures reads { ReadsPart (spec.start tokens.old) result tokens.new }
     ensures decides { result ≢ Err fail.NoMemory }
 {
     if tokens.eat(Symbol::Minus) {
@@ -27,7 +27,7 @@ fn start(tokens: &mut Tokens<'_, '_>) -> Result<i64, PartFail>
 /// A variable at file scope, from its name on.
 #[tactic(auto, unfolding(crate::specs::steps::Programs::variable))]
 fn variable(alloc: Global, tokens: &mut Tokens<'_, '_>) -> Result<RawItem, PartFail>
-    ensures { Reads (spec.variable tokens.old) result tokens.new }
+    ensures { ReadsPart (spec.variable tokens.old) result tokens.new }
 {
     let name = name(alloc, tokens)?;
     let item = match tokens.peek() {
@@ -46,7 +46,7 @@ fn variable(alloc: Global, tokens: &mut Tokens<'_, '_>) -> Result<RawItem, PartF
 /// An array's length in its brackets.
 #[tactic(auto, unfolding(crate::specs::steps::Programs::array))]
 fn array(tokens: &mut Tokens<'_, '_>, name: Name) -> Result<RawItem, PartFail>
-    ensures reads { Reads (spec.array name tokens.old) result tokens.new }
+    ensures reads { ReadsPart (spec.array name tokens.old) result tokens.new }
     ensures decides { result ≢ Err fail.NoMemory }
 {
     tokens.expect(Symbol::OpenBracket)?;
@@ -60,7 +60,7 @@ fn array(tokens: &mut Tokens<'_, '_>, name: Name) -> Result<RawItem, PartFail>
 
 #[tactic(auto, unfolding(crate::specs::steps::Programs::param))]
 fn param(alloc: Global, tokens: &mut Tokens<'_, '_>) -> Result<Name, PartFail>
-    ensures { Reads (spec.param tokens.old) result tokens.new }
+    ensures { ReadsPart (spec.param tokens.old) result tokens.new }
 {
     tokens.expect(Symbol::Int)?;
     name(alloc, tokens)
@@ -68,7 +68,7 @@ fn param(alloc: Global, tokens: &mut Tokens<'_, '_>) -> Result<Name, PartFail>
 
 #[tactic(auto, unfolding(crate::specs::steps::Programs::params))]
 fn params(alloc: Global, tokens: &mut Tokens<'_, '_>) -> Result<Row<Name>, PartFail>
-    ensures { Reads (spec.params tokens.old) result tokens.new }
+    ensures { ReadsPart (spec.params tokens.old) result tokens.new }
 {
     let mut found = Row::new(alloc);
     if tokens.sees(Symbol::CloseParen) {
@@ -88,7 +88,7 @@ fn params(alloc: Global, tokens: &mut Tokens<'_, '_>) -> Result<Row<Name>, PartF
 /// A function, from its name on.
 #[tactic(auto, unfolding(crate::specs::steps::Programs::function))]
 fn function(alloc: Global, tokens: &mut Tokens<'_, '_>) -> Result<RawItem, PartFail>
-    ensures { Reads (spec.function tokens.old) result tokens.new }
+    ensures { ReadsPart (spec.function tokens.old) result tokens.new }
 {
     let name = name(alloc, tokens)?;
     tokens.expect(Symbol::OpenParen)?;
@@ -102,7 +102,7 @@ fn function(alloc: Global, tokens: &mut Tokens<'_, '_>) -> Result<RawItem, PartF
 /// A statement of `main`, which may be a region.
 #[tactic(auto, unfolding(crate::specs::steps::Programs::top))]
 fn top(alloc: Global, tokens: &mut Tokens<'_, '_>) -> Result<RawStmt, PartFail>
-    ensures { Reads (spec.top tokens.old) result tokens.new }
+    ensures { ReadsPart (spec.top tokens.old) result tokens.new }
 {
     let depth = tokens.len();
     if tokens.eat(Symbol::Mark) {
@@ -115,7 +115,7 @@ fn top(alloc: Global, tokens: &mut Tokens<'_, '_>) -> Result<RawStmt, PartFail>
 /// A `return 0;` or nothing.
 #[tactic(auto, unfolding(crate::specs::steps::Programs::returned))]
 fn returned(tokens: &mut Tokens<'_, '_>) -> Result<(), PartFail>
-    ensures reads { Reads (spec.returned tokens.old) result tokens.new }
+    ensures reads { ReadsPart (spec.returned tokens.old) result tokens.new }
     ensures decides { result ≢ Err fail.NoMemory }
 {
     if !tokens.eat(Symbol::Return) {
@@ -132,7 +132,7 @@ fn returned(tokens: &mut Tokens<'_, '_>) -> Result<(), PartFail>
 /// The end of `main`, with its brace.
 #[tactic(auto, unfolding(crate::specs::steps::Programs::end))]
 fn end(tokens: &mut Tokens<'_, '_>) -> Result<(), PartFail>
-    ensures reads { Reads (spec.end tokens.old) result tokens.new }
+    ensures reads { ReadsPart (spec.end tokens.old) result tokens.new }
     ensures decides { result ≢ Err fail.NoMemory }
 {
     returned(tokens)?;
@@ -151,7 +151,7 @@ fn ends(tokens: &Tokens<'_, '_>) -> bool
 /// `main`, from its parenthesis on.
 #[tactic(auto, unfolding(crate::specs::steps::Programs::main_part))]
 fn main_part(alloc: Global, tokens: &mut Tokens<'_, '_>) -> Result<Row<RawStmt>, PartFail>
-    ensures { Reads (spec.main_part tokens.old) result tokens.new }
+    ensures { ReadsPart (spec.main_part tokens.old) result tokens.new }
 {
     tokens.expect(Symbol::OpenParen)?;
     tokens.eat(Symbol::Void);
@@ -174,7 +174,7 @@ enum Part {
 
 #[tactic(auto, unfolding(crate::specs::steps::Programs::part))]
 fn next_part(alloc: Global, tokens: &mut Tokens<'_, '_>) -> Result<Part, PartFail>
-    ensures { Reads (spec.part tokens.old) result tokens.new }
+    ensures { ReadsPart (spec.part tokens.old) result tokens.new }
 {
     if tokens.eat(Symbol::Void) {
         return Ok(Part::Item(function(alloc, tokens)?));
@@ -188,7 +188,7 @@ fn next_part(alloc: Global, tokens: &mut Tokens<'_, '_>) -> Result<Part, PartFai
 
 /// A whole program, after which no token is left.
 pub fn program(alloc: Global, tokens: &mut Tokens<'_, '_>) -> Result<RawProgram, PartFail>
-    ensures { Reads (spec.program tokens.old) result tokens.new }
+    ensures { ReadsPart (spec.program tokens.old) result tokens.new }
 {
     let mut items = Row::new(alloc);
     loop {

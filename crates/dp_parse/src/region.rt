@@ -2,7 +2,7 @@
 
 ghost use Rattle.std.specs.Prelude.{◌≡◌, ◌≢◌, Err};
 ghost use Rattle.dp_tokens.specs.declared.fail.PartFail.TheVariants as fail;
-ghost use Rattle.dp_tokens.specs.Steps.{Reads};
+ghost use Rattle.dp_tokens.specs.Steps.{ReadsPart};
 ghost use Rattle.dp_parse.specs.steps.Statements.{statement as plain};
 ghost use Rattle.dp_parse.specs.steps.Regions as spec;
 
@@ -16,7 +16,7 @@ use std::alloc::Global;
 /// An exit behind its condition, without braces.
 #[tactic(auto, unfolding(crate::specs::steps::Regions::bare))]
 fn bare(tokens: &mut Tokens<'_, '_>, line: u32, cond: RawExpr) -> Result<RawStmt, PartFail>
-    ensures reads { Reads (spec.bare line cond tokens.old) result tokens.new }
+    ensures reads { ReadsPart (spec.bare line cond tokens.old) result tokens.new }
     ensures decides { result ≢ Err fail.NoMemory }
 {
     tokens.expect(Symbol::Break)?;
@@ -27,7 +27,7 @@ fn bare(tokens: &mut Tokens<'_, '_>, line: u32, cond: RawExpr) -> Result<RawStmt
 /// The same in braces.
 #[tactic(auto, unfolding(crate::specs::steps::Regions::braced))]
 fn braced(tokens: &mut Tokens<'_, '_>, line: u32, cond: RawExpr) -> Result<RawStmt, PartFail>
-    ensures reads { Reads (spec.braced line cond tokens.old) result tokens.new }
+    ensures reads { ReadsPart (spec.braced line cond tokens.old) result tokens.new }
     ensures decides { result ≢ Err fail.NoMemory }
 {
     tokens.expect(Symbol::OpenBrace)?;
@@ -53,7 +53,7 @@ fn branches(
     line: u32,
     cond: RawExpr,
 ) -> Result<RawStmt, PartFail>
-    ensures { Reads (spec.branches (plain depth) line cond tokens.old) result tokens.new }
+    ensures { ReadsPart (spec.branches (plain depth) line cond tokens.old) result tokens.new }
 {
     let then_part = block(alloc, tokens, depth)?;
     let else_part = otherwise(alloc, tokens, depth)?;
@@ -74,7 +74,7 @@ fn tested(
     line: u32,
     cond: RawExpr,
 ) -> Result<RawStmt, PartFail>
-    ensures { Reads (spec.tested (plain depth) line cond tokens.old) result tokens.new }
+    ensures { ReadsPart (spec.tested (plain depth) line cond tokens.old) result tokens.new }
 {
     if tokens.sees(Symbol::Break) {
         return bare(tokens, line, cond);
@@ -87,7 +87,7 @@ fn tested(
 
 #[tactic(auto, unfolding(crate::specs::steps::Regions::branch))]
 fn branch(alloc: Global, tokens: &mut Tokens<'_, '_>, depth: usize) -> Result<RawStmt, PartFail>
-    ensures { Reads (spec.branch (plain depth) tokens.old) result tokens.new }
+    ensures { ReadsPart (spec.branch (plain depth) tokens.old) result tokens.new }
 {
     let line = tokens.expect(Symbol::If)?.line;
     let cond = condition(alloc, tokens)?;
@@ -97,7 +97,7 @@ fn branch(alloc: Global, tokens: &mut Tokens<'_, '_>, depth: usize) -> Result<Ra
 /// A statement of a region's body, which may be an early exit.
 #[tactic(auto, unfolding(crate::specs::steps::Regions::inside))]
 fn inside(alloc: Global, tokens: &mut Tokens<'_, '_>, depth: usize) -> Result<RawStmt, PartFail>
-    ensures { Reads (spec.inside (plain depth) tokens.old) result tokens.new }
+    ensures { ReadsPart (spec.inside (plain depth) tokens.old) result tokens.new }
 {
     if tokens.sees(Symbol::If) {
         return branch(alloc, tokens, depth);
@@ -107,7 +107,7 @@ fn inside(alloc: Global, tokens: &mut Tokens<'_, '_>, depth: usize) -> Result<Ra
 
 #[tactic(auto, unfolding(crate::specs::steps::Regions::body))]
 fn body(alloc: Global, tokens: &mut Tokens<'_, '_>, depth: usize) -> Result<Row<RawStmt>, PartFail>
-    ensures { Reads (spec.body (plain depth) tokens.old) result tokens.new }
+    ensures { ReadsPart (spec.body (plain depth) tokens.old) result tokens.new }
 {
     tokens.expect(Symbol::OpenBrace)?;
     let mut body = Row::new(alloc);
@@ -121,7 +121,7 @@ fn body(alloc: Global, tokens: &mut Tokens<'_, '_>, depth: usize) -> Result<Row<
 /// A region, from its `while` on.
 #[tactic(auto, unfolding(crate::specs::steps::Regions::repeated))]
 fn repeated(alloc: Global, tokens: &mut Tokens<'_, '_>, depth: usize) -> Result<RawStmt, PartFail>
-    ensures { Reads (spec.repeated (plain depth) tokens.old) result tokens.new }
+    ensures { ReadsPart (spec.repeated (plain depth) tokens.old) result tokens.new }
 {
     let line = tokens.expect(Symbol::While)?.line;
     let cond = condition(alloc, tokens)?;
@@ -137,7 +137,7 @@ fn repeated(alloc: Global, tokens: &mut Tokens<'_, '_>, depth: usize) -> Result<
 /// A region, from its `for` on.
 #[tactic(auto, unfolding(crate::specs::steps::Regions::counted))]
 fn counted(alloc: Global, tokens: &mut Tokens<'_, '_>, depth: usize) -> Result<RawStmt, PartFail>
-    ensures { Reads (spec.counted (plain depth) tokens.old) result tokens.new }
+    ensures { ReadsPart (spec.counted (plain depth) tokens.old) result tokens.new }
 {
     let line = tokens.expect(Symbol::For)?.line;
     let head = head(alloc, tokens)?;
@@ -148,7 +148,7 @@ fn counted(alloc: Global, tokens: &mut Tokens<'_, '_>, depth: usize) -> Result<R
 /// A region, from behind its mark on.
 #[tactic(auto, unfolding(crate::specs::steps::Regions::region))]
 pub fn region(alloc: Global, tokens: &mut Tokens<'_, '_>, depth: usize) -> Result<RawStmt, PartFail>
-    ensures { Reads (spec.region (plain depth) tokens.old) result tokens.new }
+    ensures { ReadsPart (spec.region (plain depth) tokens.old) result tokens.new }
 {
     if tokens.sees(Symbol::For) {
         return counted(alloc, tokens, depth);

@@ -1,6 +1,6 @@
 //! Statements and blocks.
 
-ghost use Rattle.dp_tokens.specs.Steps.{Reads};
+ghost use Rattle.dp_tokens.specs.Steps.{ReadsPart};
 ghost use Rattle.dp_parse.specs.steps.Statements as spec;
 
 use crate::expression::{list, whole};
@@ -13,7 +13,7 @@ use std::alloc::Global;
 /// An expression in parentheses.
 #[tactic(auto, unfolding(crate::specs::steps::Statements::condition))]
 pub fn condition(alloc: Global, tokens: &mut Tokens<'_, '_>) -> Result<RawExpr, PartFail>
-    ensures { Reads (spec.condition tokens.old) result tokens.new }
+    ensures { ReadsPart (spec.condition tokens.old) result tokens.new }
 {
     tokens.expect(Symbol::OpenParen)?;
     let inside = whole(alloc, tokens)?;
@@ -23,7 +23,7 @@ pub fn condition(alloc: Global, tokens: &mut Tokens<'_, '_>) -> Result<RawExpr, 
 
 #[tactic(auto, unfolding(crate::specs::steps::Statements::arguments))]
 fn arguments(alloc: Global, tokens: &mut Tokens<'_, '_>) -> Result<Row<RawExpr>, PartFail>
-    ensures { Reads (spec.arguments tokens.old) result tokens.new }
+    ensures { ReadsPart (spec.arguments tokens.old) result tokens.new }
 {
     if tokens.sees(Symbol::CloseParen) {
         return Ok(Row::new(alloc));
@@ -33,7 +33,7 @@ fn arguments(alloc: Global, tokens: &mut Tokens<'_, '_>) -> Result<Row<RawExpr>,
 
 #[tactic(auto, unfolding(crate::specs::steps::Statements::call))]
 fn call(alloc: Global, tokens: &mut Tokens<'_, '_>, name: Name) -> Result<RawStmt, PartFail>
-    ensures { Reads (spec.call name tokens.old) result tokens.new }
+    ensures { ReadsPart (spec.call name tokens.old) result tokens.new }
 {
     tokens.expect(Symbol::OpenParen)?;
     let args = arguments(alloc, tokens)?;
@@ -45,7 +45,7 @@ fn call(alloc: Global, tokens: &mut Tokens<'_, '_>, name: Name) -> Result<RawStm
 /// A statement that begins with a name.
 #[tactic(auto, unfolding(crate::specs::steps::Statements::named))]
 fn named(alloc: Global, tokens: &mut Tokens<'_, '_>) -> Result<RawStmt, PartFail>
-    ensures { Reads (spec.named tokens.old) result tokens.new }
+    ensures { ReadsPart (spec.named tokens.old) result tokens.new }
 {
     let name = name(alloc, tokens)?;
     if tokens.sees(Symbol::OpenParen) {
@@ -58,7 +58,7 @@ fn named(alloc: Global, tokens: &mut Tokens<'_, '_>) -> Result<RawStmt, PartFail
 
 #[tactic(auto, unfolding(crate::specs::steps::Statements::declaration))]
 fn declaration(alloc: Global, tokens: &mut Tokens<'_, '_>) -> Result<RawStmt, PartFail>
-    ensures { Reads (spec.declaration tokens.old) result tokens.new }
+    ensures { ReadsPart (spec.declaration tokens.old) result tokens.new }
 {
     let declared = declare(alloc, tokens)?;
     tokens.semicolon()?;
@@ -67,7 +67,7 @@ fn declaration(alloc: Global, tokens: &mut Tokens<'_, '_>) -> Result<RawStmt, Pa
 
 #[tactic(auto, unfolding(crate::specs::steps::Statements::print))]
 fn print(alloc: Global, tokens: &mut Tokens<'_, '_>) -> Result<RawStmt, PartFail>
-    ensures { Reads (spec.print tokens.old) result tokens.new }
+    ensures { ReadsPart (spec.print tokens.old) result tokens.new }
 {
     let line = tokens.expect(Symbol::Print)?.line;
     let value = condition(alloc, tokens)?;
@@ -83,7 +83,7 @@ pub fn statement(
     tokens: &mut Tokens<'_, '_>,
     depth: usize,
 ) -> Result<RawStmt, PartFail>
-    ensures { Reads (spec.statement depth tokens.old) result tokens.new }
+    ensures { ReadsPart (spec.statement depth tokens.old) result tokens.new }
 {
     if depth == 0 {
         return Err(PartFail::Refused);
@@ -102,7 +102,7 @@ pub fn statement(
 #[cycle(statement)]
 #[tactic(auto, unfolding(crate::specs::steps::Statements::repeated))]
 fn repeated(alloc: Global, tokens: &mut Tokens<'_, '_>, depth: usize) -> Result<RawStmt, PartFail>
-    ensures { Reads (spec.repeated (spec.statement depth) tokens.old) result tokens.new }
+    ensures { ReadsPart (spec.repeated (spec.statement depth) tokens.old) result tokens.new }
 {
     let line = tokens.expect(Symbol::While)?.line;
     let cond = condition(alloc, tokens)?;
@@ -119,7 +119,7 @@ fn repeated(alloc: Global, tokens: &mut Tokens<'_, '_>, depth: usize) -> Result<
 #[cycle(statement)]
 #[tactic(auto, unfolding(crate::specs::steps::Statements::counted))]
 fn counted(alloc: Global, tokens: &mut Tokens<'_, '_>, depth: usize) -> Result<RawStmt, PartFail>
-    ensures { Reads (spec.counted (spec.statement depth) tokens.old) result tokens.new }
+    ensures { ReadsPart (spec.counted (spec.statement depth) tokens.old) result tokens.new }
 {
     let line = tokens.expect(Symbol::For)?.line;
     let head = head(alloc, tokens)?;
@@ -130,7 +130,7 @@ fn counted(alloc: Global, tokens: &mut Tokens<'_, '_>, depth: usize) -> Result<R
 #[cycle(statement)]
 #[tactic(auto, unfolding(crate::specs::steps::Statements::choice))]
 fn choice(alloc: Global, tokens: &mut Tokens<'_, '_>, depth: usize) -> Result<RawStmt, PartFail>
-    ensures { Reads (spec.choice (spec.statement depth) tokens.old) result tokens.new }
+    ensures { ReadsPart (spec.choice (spec.statement depth) tokens.old) result tokens.new }
 {
     let line = tokens.expect(Symbol::If)?.line;
     let cond = condition(alloc, tokens)?;
@@ -152,7 +152,7 @@ pub fn otherwise(
     tokens: &mut Tokens<'_, '_>,
     depth: usize,
 ) -> Result<Row<RawStmt>, PartFail>
-    ensures { Reads (spec.otherwise (spec.statement depth) tokens.old) result tokens.new }
+    ensures { ReadsPart (spec.otherwise (spec.statement depth) tokens.old) result tokens.new }
 {
     if !tokens.eat(Symbol::Else) {
         return Ok(Row::new(alloc));
@@ -173,7 +173,7 @@ pub fn block(
     tokens: &mut Tokens<'_, '_>,
     depth: usize,
 ) -> Result<Row<RawStmt>, PartFail>
-    ensures { Reads (spec.block (spec.statement depth) tokens.old) result tokens.new }
+    ensures { ReadsPart (spec.block (spec.statement depth) tokens.old) result tokens.new }
 {
     tokens.expect(Symbol::OpenBrace)?;
     let mut body = Row::new(alloc);

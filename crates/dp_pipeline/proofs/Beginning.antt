@@ -1,5 +1,6 @@
 -- Where an epoch begins, its units stand at its first item.
-use Rattle.std.proofs.Common.{arith, ◌≡◌, ◌≤◌, ◌^◌, ℕ, zero, suc, ◌+◌, ◌-◌, false, List, [], ◌∷◌, ◌++◌, ℤ, length, replicate, Some, None, Result, IfOk, sym, ap, ◌∙◌, subst, refl}
+use Rattle.std.proofs.Common.{arith, ◌≡◌, ◌≤◌, ◌^◌, ℕ, zero, suc, ◌+◌, ◌-◌, false, List, [], ◌∷◌, ◌++◌, ℤ, length, replicate, Some, None, Result, IfOk, sym, ap}
+use Rattle.std.proofs.Common.{◌∙◌, subst, refl}
 use Rattle.dp_plan.specs.Each.{Each}
 use Rattle.dp_relay.specs.UnitsKey.{UnitsKey}
 use Rattle.dp_lane.specs.declared.rule.View.TheVariants.{Sender}
@@ -8,9 +9,9 @@ use Rattle.dp_ring.specs.declared.view.Standing.{Standing}
 use Rattle.dp_ring.specs.declared.view.Phase.TheVariants.{Putting, Resting, Collecting}
 use Rattle.dp_ring.specs.Calls.{at_start}
 use Rattle.dp_lean_epoch.specs.Coming.{LeanStands}
-use Rattle.dp_lean_region.specs.LeanEpoch.{LeanEpoch, IsLeanEpoch, marks_in}
+use Rattle.dp_lean_region.specs.LeanEpoch.{LeanEpoch, IsLeanEpoch, epoch_marks}
 use Rattle.dp_lean_machine.specs.declared.machine.LeanMachine.{LeanMachine}
-use Rattle.dp_lean_machine.specs.Standing.{Stands}
+use Rattle.dp_lean_machine.specs.Standing.{MachineStands}
 use Rattle.dp_judge.specs.declared.court.LeanCourt.{LeanCourt}
 use Rattle.dp_judge.specs.Judging.{Judges}
 use Rattle.dp_pipeline.specs.declared.setting.Setting.{Setting}
@@ -30,13 +31,15 @@ use Rattle.dp_pipeline.specs.Staging.{RunsAt, JudgesAt}
 use Rattle.dp_pipeline.specs.Seats.{CollectsFrom, PutsTo, IsUnused, MayTake, HasTaken, seat_facts, taking_facts, giving_facts}
 use Rattle.dp_lane.specs.Views.{sent_by}
 use Rattle.dp_pipeline.specs.Lanes.{SendsTo}
-use Rattle.dp_pipeline.specs.Standing.{Gives, Gets, IsReady, IsHolding, MayJudge, HasJudged, source_facts, target_facts, target_ended, sent_facts, ended_by}
+use Rattle.dp_pipeline.specs.Standing.{GivesBatches, Gets, IsReady, IsHolding, MayJudge, HasJudged, source_facts, target_facts, target_ended, sent_facts}
+use Rattle.dp_pipeline.specs.Standing.{sender_ended}
 use Rattle.dp_relay.specs.Works.{HasSentAll}
 
 -- a machine of the epoch's plan takes its first batch
 pub stage_begins : (x : Setting) (is : IsSetting x) (m : LeanMachine) (stage : ℕ) → stage ≤ length x.key.epoch.plan.now.stages
-    → ((e : LeanEpoch) → IsLeanEpoch e → e.key.plan ≡ x.key.epoch.plan.now → stage ≤ length x.key.epoch.plan.now.stages → LeanStands (marks_in e) e.key stage 0 x.key.epoch.base → Stands m e 0)
-    → Stands m (lean_of (key_of x.key.epoch)) 0
+    → ((e : LeanEpoch) → IsLeanEpoch e → e.key.plan ≡ x.key.epoch.plan.now → stage ≤ length x.key.epoch.plan.now.stages →
+    LeanStands (epoch_marks e) e.key stage 0 x.key.epoch.base → MachineStands m e 0)
+    → MachineStands m (lean_of (key_of x.key.epoch)) 0
 stage_begins x is m stage within begins = begins (lean_of (key_of x.key.epoch)) is.lawful.lean refl within (is.lawful.begins.stages stage)
 
 -- the number of the stage before the judging's
@@ -45,8 +48,9 @@ stages_before key stage is = omega (arith, is)
 
 -- a unit that takes its batches in order begins with the first
 pub passage_begins : (stage : Staged) (source : Source) (target : Target) (key : UnitsKey) (s : ℕ) → RunsAt stage key s (Some 0)
-    → Gives source key (s - 1) 0 → Gets target key s 0 → (source_facts source).count ≡ 0 → (target_facts target).count ≡ 0 → target_ended target ≡ false
-    → HasSentAll IsReady IsHolding (λ (ends : Passage). source_facts ends.source) (λ (ends : Passage). target_facts ends.target) (λ (ends : Passage). target_ended ends.target)
+    → GivesBatches source key (s - 1) 0 → Gets target key s 0 → (source_facts source).count ≡ 0 → (target_facts target).count ≡ 0 → target_ended target ≡ false
+    → HasSentAll IsReady IsHolding (λ (ends : Passage). source_facts ends.source) (λ (ends : Passage). target_facts ends.target)
+    (λ (ends : Passage). target_ended ends.target)
     RunsAt IsCarried is_last_carried stage (record { source = source; target = target }) false
 passage_begins stage source target key s runs gives gets none_taken none_sent mark = record {
   key = key;
@@ -61,7 +65,8 @@ passage_begins stage source target key s runs gives gets none_taken none_sent ma
 -- .. and a worker with any
 pub worker_begins : (stage : Staged) (at : Standing LaneKey) (lane : LaneKey) → RunsAt stage (key_of lane.epoch) lane.stage None
     → IsUnused lane at → lane.epoch.fuel ≤ 1000000000
-    → HasSentAll MayTake HasTaken (λ (ends : Tickets). taking_facts ends.seat) (λ (ends : Tickets). giving_facts ends.seat) (λ (ends : Tickets). ends.seat.view.ended)
+    → HasSentAll MayTake HasTaken (λ (ends : Tickets). taking_facts ends.seat) (λ (ends : Tickets). giving_facts ends.seat)
+    (λ (ends : Tickets). ends.seat.view.ended)
     RunsAt IsCarried is_last_carried stage (record { seat = at; has_ticket = false }) false
 worker_begins stage at lane runs new fuel =
     let drawn : at.view.drawn ≡ 0 = ap (λ (s : Standing LaneKey). s.view.drawn) new in record {
@@ -80,7 +85,8 @@ worker_begins stage at lane runs new fuel =
     }
 
 -- the seats of a new ring
-pub puts_first : (at : Standing LaneKey) (ring size : ℕ) (lane : LaneKey) (s : ℕ) → at ≡ at_start ring size Putting 0 (Some lane) → lane.stage ≡ s + 1 → lane.epoch.fuel ≤ 1000000000
+pub puts_first : (at : Standing LaneKey) (ring size : ℕ) (lane : LaneKey) (s : ℕ) → at ≡ at_start ring size Putting 0 (Some lane) → lane.stage ≡ s + 1 →
+    lane.epoch.fuel ≤ 1000000000
     → PutsTo at (key_of lane.epoch) s 0 × ((seat_facts at).count ≡ 0) × (at.view.ended ≡ false)
 puts_first at ring size lane s new stage fuel = (
   (
@@ -105,28 +111,29 @@ all_unused zero ring size lane = tt
 all_unused (suc n) ring size lane = (refl, all_unused n ring size lane)
 
 -- .. also where the last one was taken off
-pub last_off : (lane : LaneKey) (seats : List (Standing LaneKey)) (last : Standing LaneKey) → Each (IsUnused lane) (seats ++ last ∷ []) → Each (IsUnused lane) seats × IsUnused lane last
+pub last_off : (lane : LaneKey) (seats : List (Standing LaneKey)) (last : Standing LaneKey) → Each (IsUnused lane) (seats ++ last ∷ []) →
+    Each (IsUnused lane) seats × IsUnused lane last
 last_off lane [] last each = (tt, each.0)
 last_off lane (seat ∷ seats) last each = let rest = last_off lane seats last each.1 in ((each.0, rest.0), rest.1)
 
--- the ends of a new lane
-pub sends_none : (lane : LaneKey) (to : End LaneKey) (capacity : ℕ) → to ≡ new_end (Sender lane 0 false) capacity → ((sent_facts to).count ≡ 0) × (ended_by to.view ≡ false)
-sends_none lane to capacity new = (ap (λ (e : End LaneKey). sent_by e.view) new, ap (λ (e : End LaneKey). ended_by e.view) new)
-
-pub sends_first : (lane : LaneKey) (to : End LaneKey) (capacity : ℕ) → to ≡ new_end (Sender lane 0 false) capacity → SendsTo to.view (key_of lane.epoch) lane.stage 0
+pub sends_first : (lane : LaneKey) (to : End LaneKey) (capacity : ℕ) → to ≡ new_end (Sender lane 0 false) capacity →
+    SendsTo to.view (key_of lane.epoch) lane.stage 0
 sends_first lane to capacity new = record { lane = lane; ended = false; view_is = ap (λ (e : End LaneKey). e.view) new; epoch = refl; stage = refl }
 
 module _ (lane : LaneKey) (source : Source) (to : End LaneKey) (capacity : ℕ) where
   pub judging_begins : (t : LeanCourt) → Judges t (lean_of (key_of lane.epoch)) 0 → lane.stage - 1 ≡ length lane.epoch.plan.now.stages
-      → Gives source (key_of lane.epoch) (lane.stage - 1) 0 → (source_facts source).count ≡ 0 → to ≡ new_end (Sender lane 0 false) capacity → lane.epoch.fuel ≤ 1000000000
-      → HasSentAll MayJudge HasJudged (λ (ends : Judging). source_facts ends.source) (λ (ends : Judging). sent_facts ends.verdicts) (λ (ends : Judging). ended_by ends.verdicts.view)
-      JudgesAt (λ (key : UnitsKey) (s k : ℕ) (x : Judged). IsJudged key k x) is_last_judged (record { court = t }) (record { source = source; verdicts = to }) false
+      → GivesBatches source (key_of lane.epoch) (lane.stage - 1) 0 → (source_facts source).count ≡ 0 → to ≡ new_end (Sender lane 0 false) capacity →
+      lane.epoch.fuel ≤ 1000000000
+      → HasSentAll MayJudge HasJudged (λ (ends : Judging). source_facts ends.source) (λ (ends : Judging). sent_facts ends.verdicts)
+      (λ (ends : Judging). sender_ended ends.verdicts.view)
+      JudgesAt (λ (key : UnitsKey) (s k : ℕ) (x : Judged). IsJudged key k x) is_last_judged (record { court = t })
+      (record { source = source; verdicts = to }) false
   judging_begins t judges before gives count new fuel = record {
     key = key_of lane.epoch;
     number = lane.stage;
     place = Some 0;
     free = record { at = 0; place_is = refl; from = gives; to = sends_first lane to capacity new };
     stands_on = λ _. record { before = before; stands = judges; few = fuel };
-    mark = ap (λ (e : End LaneKey). ended_by e.view) new;
+    mark = ap (λ (e : End LaneKey). sender_ended e.view) new;
     counts = count ∙ sym (ap (λ (e : End LaneKey). sent_by e.view) new);
   }

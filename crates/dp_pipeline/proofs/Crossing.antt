@@ -37,7 +37,52 @@ use Rattle.dp_pipeline.specs.contracts.carried.Carried as Carried
 use Rattle.dp_pipeline.specs.contracts.judged.Judged as Judged
 use Rattle.dp_pipeline.specs.contracts.spare.Spare as Spare
 
-ruleset plain = (bin.the_field_sync, bin.the_sync, bin.the_field_send, bin.the_send, un.the_field_sync, un.the_sync, un.the_field_send, un.the_send, site.the_field_sync, site.the_sync, site.the_field_send, site.the_send, var.the_field_sync, var.the_sync, var.the_field_send, var.the_send, region_info.the_field_sync, region_info.the_sync, region_info.the_field_send, region_info.the_send, site_info.the_field_sync, site_info.the_sync, site_info.the_field_send, site_info.the_send, site_kind.the_field_sync, site_kind.the_sync, site_kind.the_field_send, site_kind.the_send, var_info.the_field_sync, var_info.the_sync, var_info.the_field_send, var_info.the_send, var_scope.the_field_sync, var_scope.the_sync, var_scope.the_field_send, var_scope.the_send, heap.the_field_sync, heap.the_sync, heap.the_field_send, heap.the_send, crossing.crosses, expr.crosses, stmt.crosses, sendable)
+ruleset plain = (
+  bin.the_field_sync,
+  bin.the_sync,
+  bin.the_field_send,
+  bin.the_send,
+  un.the_field_sync,
+  un.the_sync,
+  un.the_field_send,
+  un.the_send,
+  site.the_field_sync,
+  site.the_sync,
+  site.the_field_send,
+  site.the_send,
+  var.the_field_sync,
+  var.the_sync,
+  var.the_field_send,
+  var.the_send,
+  region_info.the_field_sync,
+  region_info.the_sync,
+  region_info.the_field_send,
+  region_info.the_send,
+  site_info.the_field_sync,
+  site_info.the_sync,
+  site_info.the_field_send,
+  site_info.the_send,
+  site_kind.the_field_sync,
+  site_kind.the_sync,
+  site_kind.the_field_send,
+  site_kind.the_send,
+  var_info.the_field_sync,
+  var_info.the_sync,
+  var_info.the_field_send,
+  var_info.the_send,
+  var_scope.the_field_sync,
+  var_scope.the_sync,
+  var_scope.the_field_send,
+  var_scope.the_send,
+  heap.the_field_sync,
+  heap.the_sync,
+  heap.the_field_send,
+  heap.the_send,
+  crossing.crosses,
+  expr.crosses,
+  stmt.crosses,
+  sendable,
+)
 
 pub function_field_sync : IsSync (Function.the_field).row
 function_field_sync = search (plain, boxed.the_sync, row.the_sync) depth 60 fits 20000
@@ -52,7 +97,21 @@ pub program_sync : IsSync Program.the_row
 program_sync = recorded_sync (Program.the_field).row _ _ (Program.the_type).to_one program_field_sync
 
 tables_field_sync : (a : NamedLft) → IsSync (RegionInside.the_field a).row
-tables_field_sync a = let p = program_sync in let q = program_field_sync in search (plan.the_sync, cell.the_field_sync, cell.the_sync, kind.the_field_sync, kind.the_sync, judge_made.the_field_sync, judge_made.the_sync, stage_tables.the_field_sync, stage_tables.the_sync, row.the_sync, crossing.crosses, sendable) depth 60 fits 20000
+tables_field_sync a = let p = program_sync in let q = program_field_sync in
+    search (
+      plan.the_sync,
+      cell.the_field_sync,
+      cell.the_sync,
+      kind.the_field_sync,
+      kind.the_sync,
+      judge_made.the_field_sync,
+      judge_made.the_sync,
+      stage_tables.the_field_sync,
+      stage_tables.the_sync,
+      row.the_sync,
+      crossing.crosses,
+      sendable,
+    ) depth 60 fits 20000
 
 tables_inside_sync : (a : NamedLft) → IsSync (RegionInside.the_row a)
 tables_inside_sync a = recorded_sync (RegionInside.the_field a).row _ _ (RegionInside.the_type a).to_one (tables_field_sync a)
@@ -68,7 +127,17 @@ line_send a = recorded_send (Line.the_field a).row _ _ (Line.the_type a).to_one 
 
 pub batch_field_send : (a : NamedLft) → IsSend (LeanBatch.the_field a).row
 batch_field_send a = let l = line_send a in let f = line_field_send a in
-    search (status.the_field_send, status.the_send, stage_columns.the_field_send, stage_columns.the_send, row.the_send, option.the_send, version.the_send, version_room.the_send, sendable) depth 60 fits 20000
+    search (
+      status.the_field_send,
+      status.the_send,
+      stage_columns.the_field_send,
+      stage_columns.the_send,
+      row.the_send,
+      option.the_send,
+      version.the_send,
+      version_room.the_send,
+      sendable,
+    ) depth 60 fits 20000
 
 pub batch_send : (a : NamedLft) → IsSend (LeanBatch.the_row a)
 batch_send a = recorded_send (LeanBatch.the_field a).row _ _ (LeanBatch.the_type a).to_one (batch_field_send a)

@@ -2,7 +2,6 @@ pub mod Beginning
 pub mod Coming
 pub mod Froms
 pub mod Growth
-pub mod Passing
 pub mod Seated
 pub mod Settings
 pub mod Staging
@@ -12,5 +11,4 @@ pub mod VerdictsCome
 pub mod UnitCounts
 pub mod rows
 pub mod Crossing
-pub mod Giving
 pub mod Telling

@@ -7,7 +7,7 @@ use Rattle.dp_theorem.proofs.GivenFits.{given_fits}
 use Rattle.dp_prepared.specs.Planned.{IsPlanned, prepared_of}
 use Rattle.dp_relay.specs.UnitsKey.{UnitsKey}
 use Rattle.dp_lean_region.specs.Laws.{IsLawful, AreLawful}
-use Rattle.dp_lean_region.specs.Line.{IsLineOf, program_of, plan_of, cap_of}
+use Rattle.dp_lean_region.specs.Line.{IsLineOf, line_program, line_plan, cap_of}
 use Rattle.dp_lean_region.specs.declared.line.Line.{Line}
 use Rattle.dp_pipeline.specs.declared.keys.Begin.{Begin}
 use Rattle.dp_pipeline.specs.declared.keys.EpochKey.{EpochKey as Held}
@@ -29,8 +29,9 @@ setting_on x y is line epoch numbered = record {
 }
 
 -- the first one
-pub setting_at : (x : Setting) (begin : Begin) → key_of x.key.epoch ≡ units_key_at (prepared_of (program_of x.line) (plan_of x.line)) x.line.input.now begin (cap_of x.line)
-    → IsPlanned (program_of x.line) (plan_of x.line) → AreLawful (program_of x.line) (plan_of x.line) (cap_of x.line)
+pub setting_at : (x : Setting) (begin : Begin) → key_of x.key.epoch ≡ units_key_at (prepared_of (line_program x.line) (line_plan x.line)) x.line.input.now
+    begin (cap_of x.line)
+    → IsPlanned (line_program x.line) (line_plan x.line) → AreLawful (line_program x.line) (line_plan x.line) (cap_of x.line)
     → begin.steps ≤ begin.fuel → begin.fuel ≤ 1000000000 → 0 < x.key.stage → IsSetting x
 setting_at x begin is planned lawful steps fuel numbered = record {
   planned = subst (λ (k : UnitsKey). IsPlanned k.epoch.program k.epoch.plan) (sym is) planned;

@@ -1,9 +1,10 @@
 -- What a stage makes of a batch that came.
-use Rattle.std.proofs.Common.{arith, ◌≡◌, ◌≤◌, ◌<◌, ℕ, suc, ◌+◌, ◌-◌, Bool, true, false, not, ◌&&◌, nat_le, length, Option, Some, None, IfOk, Result, sym, ap, ◌∙◌, subst, refl}
+use Rattle.std.proofs.Common.{arith, ◌≡◌, ◌≤◌, ◌<◌, ℕ, suc, ◌+◌, ◌-◌, Bool, true, false, not, ◌&&◌, nat_le, length, Option, Some, None, IfOk, Result, sym, ap}
+use Rattle.std.proofs.Common.{◌∙◌, subst, refl}
 use Rattle.dp_plan.specs.declared.Plan.{Plan}
 use Rattle.dp_plan.specs.Access.{is_replicated}
 use Rattle.dp_relay.specs.UnitsKey.{UnitsKey}
-use Rattle.dp_relay.specs.Places.{At, behind}
+use Rattle.dp_relay.specs.Places.{At, place_behind}
 use Rattle.dp_lean_region.specs.LeanEpoch.{LeanEpoch}
 use Rattle.dp_lean_machine.specs.declared.batch.BatchStatus.{BatchStatus}
 use Rattle.dp_lean_machine.specs.declared.batch.BatchStatus.TheVariants.{Going, Closing, Void, NoMemory}
@@ -11,11 +12,11 @@ use Rattle.dp_lean_machine.specs.declared.machine.Kept.{Kept}
 use Rattle.dp_lean_machine.specs.declared.machine.Kept.TheVariants.{Cells, Versioned, Nothing}
 use Rattle.dp_lean_machine.specs.declared.machine.LeanMachine.{LeanMachine}
 use Rattle.dp_lean_machine.specs.Sent.{IsSent}
-use Rattle.dp_lean_machine.specs.Standing.{Keeps, Stands, Passes}
+use Rattle.dp_lean_machine.specs.Standing.{KeepsMemory, MachineStands, Passes}
 use Rattle.dp_pipeline.specs.declared.carried.Carried.{Carried}
 use Rattle.dp_pipeline.specs.declared.staged.Staged.{Staged}
 use Rattle.dp_pipeline.specs.Carried.{lean_of, IsCarried, is_going_on, is_last_carried}
-use Rattle.dp_pipeline.specs.Staging.{StandsFor, RunsAt}
+use Rattle.dp_pipeline.specs.Staging.{StandsForBatch, RunsAt}
 
 -- behind a batch that isn't the last, the epoch goes on
 pub not_last : (a b : Bool) → not (a && b) ≡ false → (a ≡ true) × (b ≡ true)
@@ -34,12 +35,12 @@ abbrev pub is_last_with : Carried → ℕ → Bool
 is_last_with x fuel = not (is_going_on x.batch.status && nat_le x.batch.iterations (fuel - x.batch.first))
 
 -- a replicated stage keeps the same before each batch
-keeps_anywhere : (e : LeanEpoch) (s : ℕ) (kept : Kept) (n k : ℕ) → is_replicated e.key.plan s ≡ true → Keeps e s n kept → Keeps e s k kept
+keeps_anywhere : (e : LeanEpoch) (s : ℕ) (kept : Kept) (n k : ℕ) → is_replicated e.key.plan s ≡ true → KeepsMemory e s n kept → KeepsMemory e s k kept
 keeps_anywhere e s (Cells cells) n k par keeps = let clash : true ≡ false = sym par ∙ keeps.0 in absurd (cc clash)
 keeps_anywhere e s (Versioned both) n k par keeps = let clash : true ≡ false = sym par ∙ keeps.0 in absurd (cc clash)
 keeps_anywhere e s Nothing n k par keeps = par
 
-stands_anywhere : (m : LeanMachine) (e : LeanEpoch) (b : ℕ) → is_replicated e.key.plan m.stage ≡ true → Stands m e b → (d : ℕ) → Stands m e d
+stands_anywhere : (m : LeanMachine) (e : LeanEpoch) (b : ℕ) → is_replicated e.key.plan m.stage ≡ true → MachineStands m e b → (d : ℕ) → MachineStands m e d
 stands_anywhere m e b par stands d = record {
   epoch = stands.epoch;
   some = stands.some;
@@ -56,13 +57,14 @@ runs_anywhere x key s par runs =
       stands = (replicated, stands_anywhere x.machine (lean_of key) 0 replicated runs.stands);
     }
 
-stands_here : (m : LeanMachine) (key : UnitsKey) (place : Option ℕ) (b : ℕ) → StandsFor m key place → At place b → Stands m (lean_of key) b
-stands_here m key (Some c) b stands at = subst (Stands m (lean_of key)) (sym at) stands
+stands_here : (m : LeanMachine) (key : UnitsKey) (place : Option ℕ) (b : ℕ) → StandsForBatch m key place → At place b → MachineStands m (lean_of key) b
+stands_here m key (Some c) b stands at = subst (MachineStands m (lean_of key)) (sym at) stands
 stands_here m key None b stands at = stands.1 b
 
-stands_behind : (m new : LeanMachine) (key : UnitsKey) (place : Option ℕ) (b : ℕ) → new.stage ≡ m.stage → StandsFor m key place → Stands new (lean_of key) (suc b)
-    → StandsFor new key (behind place b)
-stands_behind m new key (Some c) b same stands next = let one : suc b ≡ b + 1 = omega arith in subst (Stands new (lean_of key)) one next
+stands_behind : (m new : LeanMachine) (key : UnitsKey) (place : Option ℕ) (b : ℕ) → new.stage ≡ m.stage → StandsForBatch m key place →
+    MachineStands new (lean_of key) (suc b)
+    → StandsForBatch new key (place_behind place b)
+stands_behind m new key (Some c) b same stands next = let one : suc b ≡ b + 1 = omega arith in subst (MachineStands new (lean_of key)) one next
 stands_behind m new key None b same stands next =
     let par : is_replicated key.epoch.plan new.stage ≡ true = ap (is_replicated key.epoch.plan) same ∙ stands.0 in
     (par, stands_anywhere new (lean_of key) (suc b) par next)
@@ -71,7 +73,7 @@ module _ (x new : Staged) (came sent : Carried) (key : UnitsKey) (s : ℕ) (plac
     (is : IsCarried key (s - 1) b came) (stage : new.machine.stage ≡ x.machine.stage) (fuel : new.fuel ≡ x.fuel) where
   -- the machine passes it on, wherever it stands
   abbrev pub PassesOn : Type 0
-  PassesOn = (e : LeanEpoch) (c : ℕ) → Stands x.machine e c → IsSent e (x.machine.stage - 1) c came.batch → Passes new.machine e c sent.batch
+  PassesOn = (e : LeanEpoch) (c : ℕ) → MachineStands x.machine e c → IsSent e (x.machine.stage - 1) c came.batch → Passes new.machine e c sent.batch
 
   passed : PassesOn → Passes new.machine (lean_of key) b sent.batch
   passed step = step (lean_of key) b (stands_here x.machine key place b runs.stands at)
@@ -84,7 +86,7 @@ module _ (x new : Staged) (came sent : Carried) (key : UnitsKey) (s : ℕ) (plac
         within = subst (λ (i : ℕ). i ≤ key.epoch.fuel) (is.sent.first ∙ sym sends.first) is.within;
       }
 
-  pub batch_next : PassesOn → is_last_carried key sent ≡ false → RunsAt new key s (behind place b)
+  pub batch_next : PassesOn → is_last_carried key sent ≡ false → RunsAt new key s (place_behind place b)
   batch_next step goes = record {
     stage = stage ∙ runs.stage;
     fuel = fuel ∙ runs.fuel;

@@ -3,17 +3,17 @@ use Rattle.std.proofs.Common.{arith, ◌≡◌, ◌≤◌, ℕ, suc, ◌+◌, Bo
 use Rattle.dp_relay.specs.UnitsKey.{UnitsKey}
 use Rattle.dp_lane.specs.declared.rule.View.{View}
 use Rattle.dp_lane.specs.declared.rule.View.TheVariants.{Fresh, Sender, Taker, Spent}
-use Rattle.dp_lane.specs.Ends.{End, moved, refused_once}
+use Rattle.dp_lane.specs.Ends.{End, moved_end, refused_once}
 use Rattle.dp_lane.specs.Views as views
 use Rattle.dp_lean_epoch.specs.LeanBatch.{IsLeanBatch}
-use Rattle.dp_lean_region.specs.LeanEpoch.{LeanEpoch, marks_in, kept_in}
+use Rattle.dp_lean_region.specs.LeanEpoch.{LeanEpoch, epoch_marks, kept_in}
 use Rattle.dp_lean_region.specs.Line.{IsLineOf}
 use Rattle.dp_lean_region.specs.declared.line.Line.{Line}
 use Rattle.dp_lean_machine.specs.declared.batch.LeanBatch.{LeanBatch}
 use Rattle.dp_lean_machine.specs.declared.batch.BatchStatus.{BatchStatus}
 use Rattle.dp_lean_machine.specs.declared.batch.BatchStatus.TheVariants.{NoMemory}
 use Rattle.dp_lean_machine.specs.Fresh.{IsFresh}
-use Rattle.dp_lean_machine.specs.Sent.{IsSent, Unless, item_of}
+use Rattle.dp_lean_machine.specs.Sent.{IsSent, Unless, item_sent}
 use Rattle.dp_pipeline.specs.declared.keys.LaneKey.{LaneKey}
 use Rattle.dp_pipeline.specs.declared.carried.Carried.{Carried}
 use Rattle.dp_pipeline.specs.declared.spare.Spare.{Spare}
@@ -22,7 +22,7 @@ use Rattle.dp_pipeline.specs.declared.supply.Supply.{Supply}
 use Rattle.dp_pipeline.specs.Carried.{lean_of, IsCarried}
 use Rattle.dp_pipeline.specs.Keys.{key_of}
 use Rattle.dp_pipeline.specs.Lanes.{TakesFrom, SendsTo, ComesBack, GoesBack}
-use Rattle.dp_pipeline.specs.Sizes.{begins, size}
+use Rattle.dp_pipeline.specs.Sizes.{batch_begins, size}
 use Rattle.dp_pipeline.specs.Standing.{Starts}
 use Rattle.dp_pipeline.specs.steps.Supplying.{Supplies, IsSupplied}
 use Rattle.dp_pipeline.proofs.Growth.{size_is}
@@ -32,28 +32,26 @@ abbrev pub is_spare : LaneKey → ℕ → Spare → Type 0
 is_spare key k x = IsLineOf (lean_of (key_of key.epoch)) x.batch.line
 
 -- a batch came back: it is one of the epoch's line
-pub came_back : (old new : View LaneKey) (x : Spare) → views.Takes is_spare old x new → (key : UnitsKey) → ComesBack old key
+pub came_back : (old new : View LaneKey) (x : Spare) → views.TakesItem is_spare old x new → (key : UnitsKey) → ComesBack old key
     → IsLineOf (lean_of key) x.batch.line × ComesBack new key
 came_back old new x takes key (s, n, at) =
-    let got = subst (λ (v : View LaneKey). views.Takes is_spare v x new) at.view_is takes in (
+    let got = subst (λ (v : View LaneKey). views.TakesItem is_spare v x new) at.view_is takes in (
       subst (λ (e : UnitsKey). IsLineOf (lean_of e) x.batch.line) at.epoch got.0,
       (s, n + 1, record { lane = at.lane; view_is = got.1; epoch = at.epoch; stage = at.stage }),
     )
 
--- .. and one may be sent back
-pub may_go_back : (view : View LaneKey) (x : Spare) (key : UnitsKey) → GoesBack view key → IsLineOf (lean_of key) x.batch.line → views.IsNext is_spare view x
-may_go_back view x key (s, n, at) line =
-    subst (λ (v : View LaneKey). views.IsNext is_spare v x) (sym at.view_is) (subst (λ (e : UnitsKey). IsLineOf (lean_of e) x.batch.line) (sym at.epoch) line)
-
-pub went_back : (view : View LaneKey) (x : Spare) (is_ending : LaneKey → Spare → Bool) (key : UnitsKey) → GoesBack view key → GoesBack (views.after_send is_ending view x) key
+pub went_back : (view : View LaneKey) (x : Spare) (is_ending : LaneKey → Spare → Bool) (key : UnitsKey) → GoesBack view key →
+    GoesBack (views.after_send is_ending view x) key
 went_back view x is_ending key (s, n, at) =
     subst (λ (v : View LaneKey). GoesBack (views.after_send is_ending v x) key) (sym at.view_is)
     (s, n + 1, record { lane = at.lane; ended = is_ending at.lane x; view_is = refl; epoch = at.epoch; stage = at.stage })
 
 -- .. or didn't go
-pub sent_back : {U : Type 0} (r : Result U Spare) (old new : End LaneKey) (x : Spare) → OnOk r (new ≡ moved old (views.after_send (λ (key : LaneKey) (y : Spare). false) old.view x)) → OnErr r (new ≡ refused_once old)
+pub sent_back : {U : Type 0} (r : Result U Spare) (old new : End LaneKey) (x : Spare) →
+    OnOk r (new ≡ moved_end old (views.after_send (λ (key : LaneKey) (y : Spare). false) old.view x)) → OnErr r (new ≡ refused_once old)
     → (key : UnitsKey) → GoesBack old.view key → GoesBack new.view key
-sent_back (Ok u) old new x ok err key at = subst (λ (e : End LaneKey). GoesBack e.view key) (sym ok) (went_back old.view x (λ (k : LaneKey) (y : Spare). false) key at)
+sent_back (Ok u) old new x ok err key at =
+    subst (λ (e : End LaneKey). GoesBack e.view key) (sym ok) (went_back old.view x (λ (k : LaneKey) (y : Spare). false) key at)
 sent_back (Err y) old new x ok err key at = subst (λ (e : End LaneKey). GoesBack e.view key) (sym err) at
 
 -- the last one is of the line
@@ -67,11 +65,12 @@ pub wanting_sent : (e : LeanEpoch) (b : ℕ) (x y : LeanBatch) → IsSent e 0 b 
 wanting_sent e b x y is wanting line first = record {
   line = subst (IsLineOf e) (sym line) is.line;
   first = first ∙ is.first;
-  item = subst (λ (status : BatchStatus). Unless status (λ ends. IsLeanBatch (marks_in e) e.key (kept_in e) e.cap 0 b (item_of 0 ends y))) (sym wanting) tt;
+  item = subst (λ (status : BatchStatus). Unless status (λ ends. IsLeanBatch (epoch_marks e) e.key (kept_in e) e.cap 0 b (item_sent 0 ends y))) (sym wanting)
+      tt;
 }
 
 -- a batch that came back is given again
-pub came_supplies : (x y : Supply) (came : Spare) → views.Takes is_spare x.spares.view came y.spares.view → y.line ≡ x.line → y.last ≡ x.last
+pub came_supplies : (x y : Supply) (came : Spare) → views.TakesItem is_spare x.spares.view came y.spares.view → y.line ≡ x.line → y.last ≡ x.last
     → (key : UnitsKey) → Supplies x key → Supplies y key
 came_supplies x y came takes line last key at = record {
   epoch = at.epoch;
@@ -80,7 +79,7 @@ came_supplies x y came takes line last key at = record {
   last = subst (λ (o : Option LeanBatch). IfSome o (λ (batch : LeanBatch). IsLineOf (lean_of key) batch.line)) (sym last) at.last;
 }
 
-pub came_fresh : (x : Supply) (new : View LaneKey) (came : Spare) (made : LeanBatch) (first count : ℕ) → views.Takes is_spare x.spares.view came new
+pub came_fresh : (x : Supply) (new : View LaneKey) (came : Spare) (made : LeanBatch) (first count : ℕ) → views.TakesItem is_spare x.spares.view came new
     → IsFresh came.batch.line first count made → IsSupplied x first count made
 came_fresh x new came made first count takes fresh key b at first_is count_is =
     fresh (lean_of key) b at.epoch (came_back x.spares.view new came takes key at.spares).0 first_is count_is
@@ -112,14 +111,14 @@ module _ (old new : Start) (x : Carried) (many : ℕ) (fresh : IsSupplied old.su
   starts_batch key s n at full =
       let one : suc n ≡ n + 1 = omega arith in
       let next_is = at.next in
-      let sum : new.next ≡ key.epoch.first + (begins key n + size key n) = omega (arith, next, next_is, full) in
+      let sum : new.next ≡ key.epoch.first + (batch_begins key n + size key n) = omega (arith, next, next_is, full) in
       let sent = fresh key n at.supply at.next full in
       let first_is = sent.first in let fuel_is = at.fuel in
       let within : x.batch.first ≤ key.epoch.fuel = omega (arith, first_is, next_is, low, fuel_is) in (
         subst (λ (t : ℕ). IsCarried key t n x) (sym at.stage) (record { sent = sent; within = within }),
         record {
           first = first ∙ at.first;
-          next = sum ∙ ap (λ (b : ℕ). key.epoch.first + begins key b) one;
+          next = sum ∙ ap (λ (b : ℕ). key.epoch.first + batch_begins key b) one;
           fuel = fuel ∙ at.fuel;
           cap = cap ∙ at.cap;
           supply = stays key at.supply;

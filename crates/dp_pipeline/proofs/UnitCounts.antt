@@ -36,26 +36,31 @@ module _ (workers : ℕ) (plan : Plan) where
   -- none yet, before the first stage
   pub none_staffed : (s count : ℕ) → s ≡ 1 → count ≡ 0 → Staffed workers plan s count
   none_staffed s count is none =
-      let all : unit_count_all workers (drop (s - 1) plan.stages) ≡ unit_count_all workers plan.stages = ap (λ (j : ℕ). unit_count_all workers (drop (j - 1) plan.stages)) is in omega (arith, all, none)
+      let all : unit_count_all workers (drop (s - 1) plan.stages) ≡ unit_count_all workers plan.stages = ap
+      (λ (j : ℕ). unit_count_all workers (drop (j - 1) plan.stages)) is in omega (arith, all, none)
 
   -- a unit more, that of a stage which isn't replicated
-  pub stage_more : (s count : ℕ) → 0 < s → s ≤ length plan.stages → is_replicated plan s ≡ false → Staffed workers plan s count → Staffed workers plan (s + 1) (count + 1)
+  pub stage_more : (s count : ℕ) → 0 < s → s ≤ length plan.stages → is_replicated plan s ≡ false → Staffed workers plan s count →
+      Staffed workers plan (s + 1) (count + 1)
   stage_more zero count low high e was = absurd (omega (arith, low))
   stage_more (suc k) count low high e was =
       let here : suc k - 1 ≡ k = omega arith in
       let next : suc k + 1 - 1 ≡ suc k = omega arith in
-      let begun : count + unit_count_all workers (drop k plan.stages) ≡ unit_count_all workers plan.stages = ap (λ (j : ℕ). count + unit_count_all workers (drop j plan.stages)) (sym here) ∙ was in
+      let begun : count + unit_count_all workers (drop k plan.stages) ≡ unit_count_all workers plan.stages = ap
+      (λ (j : ℕ). count + unit_count_all workers (drop j plan.stages)) (sym here) ∙ was in
       let one = one_of workers plan.stages k Seq (sequential_at plan.stages k (omega (arith, high)) e) in
       ap (λ (j : ℕ). count + 1 + unit_count_all workers (drop j plan.stages)) next ∙ omega (arith, begun, one)
 
   -- .. and the workers of the replicated stage behind it
-  pub workers_more : (s count : ℕ) → 0 < s → s ≤ length plan.stages → is_replicated plan s ≡ false → is_replicated plan (suc s) ≡ true → Staffed workers plan s count
+  pub workers_more : (s count : ℕ) → 0 < s → s ≤ length plan.stages → is_replicated plan s ≡ false → is_replicated plan (suc s) ≡ true →
+      Staffed workers plan s count
       → Staffed workers plan (s + 1 + 1) (count + (workers + 1))
   workers_more s count low high e par was =
       let one = stage_more s count low high e was in
       let here : s + 1 - 1 ≡ s = omega arith in
       let next : s + 1 + 1 - 1 ≡ suc s = omega arith in
-      let begun : count + 1 + unit_count_all workers (drop s plan.stages) ≡ unit_count_all workers plan.stages = ap (λ (j : ℕ). count + 1 + unit_count_all workers (drop j plan.stages)) (sym here) ∙ one in
+      let begun : count + 1 + unit_count_all workers (drop s plan.stages) ≡ unit_count_all workers plan.stages = ap
+      (λ (j : ℕ). count + 1 + unit_count_all workers (drop j plan.stages)) (sym here) ∙ one in
       let more = one_of workers plan.stages s Par (replicated_at plan.stages s par) in
       ap (λ (j : ℕ). count + (workers + 1) + unit_count_all workers (drop j plan.stages)) next ∙ omega (arith, begun, more)
 

@@ -1,12 +1,13 @@
 -- Verdicts come out of their lane together, and are given one by one.
-use Rattle.std.proofs.Common.{arith, ◌≡◌, ◌<◌, ◌^◌, ◌⊎◌, inl, inr, ℕ, suc, ◌+◌, false, List, [], ◌∷◌, length, Option, Some, None, MatchOption, sym, ap, ◌∙◌, subst, refl}
+use Rattle.std.proofs.Common.{arith, ◌≡◌, ◌<◌, ◌^◌, ◌⊎◌, inl, inr, ℕ, suc, ◌+◌, false, List, [], ◌∷◌, length, Option, Some, None, MatchOption, sym, ap, ◌∙◌}
+use Rattle.std.proofs.Common.{subst, refl}
 use Rattle.dp_semantics.specs.EpochVerdicts.{verdict_at}
 use Rattle.dp_lane.specs.declared.rule.View.{View}
 use Rattle.dp_lane.specs.declared.rule.View.TheVariants.{Fresh, Sender, Taker, Spent}
-use Rattle.dp_lane.specs.Views.{Takes}
+use Rattle.dp_lane.specs.Views.{TakesItem}
 use Rattle.dp_judge.specs.declared.verdict.Verdict.{Verdict}
 use Rattle.dp_judge.specs.declared.verdict.Verdict.TheVariants as verdict
-use Rattle.dp_judge.specs.Told.{Says}
+use Rattle.dp_judge.specs.Told.{SaysDecided}
 use Rattle.dp_lean_region.specs.Line.{IsLineOf}
 use Rattle.dp_judge.specs.Decided.{left_to_give}
 use Rattle.dp_relay.specs.UnitsKey.{UnitsKey}
@@ -14,34 +15,11 @@ use Rattle.dp_pipeline.specs.declared.judged.Judged.{Judged}
 use Rattle.dp_pipeline.specs.declared.keys.LaneKey.{LaneKey}
 use Rattle.dp_pipeline.specs.declared.told.Told.{Told}
 use Rattle.dp_pipeline.specs.Carried.{lean_of, IsTold, IsJudged, is_over}
-use Rattle.dp_pipeline.specs.Coming.{Comes, coming_on}
+use Rattle.dp_pipeline.specs.Coming.{VerdictComes, coming_on}
 use Rattle.dp_pipeline.specs.Keys.{key_of}
 use Rattle.dp_pipeline.specs.Lanes.{GoesBack}
-use Rattle.dp_pipeline.specs.Left.{left_of, GivesOne, GivesNext, Awaits, AwaitsOn, BackOf}
-use Rattle.dp_pipeline.specs.Sizes.{begins, size, EachFrom}
-use Rattle.dp_pipeline.specs.Standing.{taken_by}
-
--- room for the number of those that are given
-pub few_left : (v back : View LaneKey) (t : Told) → AwaitsOn v back t → t.given + length (left_of t) < 2 ^ 63
-few_left (Taker lane taken) back t at = at.0.few
-few_left (Sender lane sent ended) back t at = let none = ap length at.0 in let few = at.1 in omega (arith, none, few)
-few_left Fresh back t at = let none = ap length at.0 in let few = at.1 in omega (arith, none, few)
-few_left Spent back t at = let none = ap length at.0 in let few = at.1 in omega (arith, none, few)
-
--- none came yet
-pub none_came : (v back : View LaneKey) (t : Told) → taken_by v ≡ 0 → BackOf v back → left_of t ≡ [] → t.given ≡ 0 → AwaitsOn v back t
-none_came (Taker lane taken) back t none goes left given =
-    let zero_left = ap length left in (
-      record {
-        left = subst (λ (vs : List Verdict). EachFrom (IsTold (key_of lane.epoch)) t.given vs) (sym left) tt;
-        next = λ still. (let sum : t.given + length (left_of t) ≡ 0 = omega (arith, given, zero_left) in sum ∙ ap (begins (key_of lane.epoch)) (sym none));
-        few = omega (arith, given, zero_left);
-      },
-      goes,
-    )
-none_came (Sender lane sent ended) back t none goes left given = (left, omega (arith, given))
-none_came Fresh back t none goes left given = (left, omega (arith, given))
-none_came Spent back t none goes left given = (left, omega (arith, given))
+use Rattle.dp_pipeline.specs.Left.{left_of, GivesOne, GivesNext, Awaits, AwaitsOn}
+use Rattle.dp_pipeline.specs.Sizes.{batch_begins, size, EachFrom}
 
 says_by : (key : UnitsKey) (n : ℕ) (first v : Verdict) → IsTold key n first → (v ≡ first) ⊎ (v ≡ verdict.NoMemory) → IsTold key n v
 says_by key n first v told (inl same) = subst (IsTold key n) (sym same) told
@@ -56,7 +34,7 @@ few_by n k rest new few next (inl same) = let many = ap length same in omega (ar
 few_by n k rest new few next (inr none) = let many = ap length none in omega (arith, few, next, many)
 
 comes_of : (lane : LaneKey) (taken : ℕ) (t u : Told) (x : Verdict) → Awaits (key_of lane.epoch) taken t → GivesOne x t u
-    → Comes x (coming_on (Taker lane taken) t.given) (coming_on (Taker lane taken) u.given) × Awaits (key_of lane.epoch) taken u
+    → VerdictComes x (coming_on (Taker lane taken) t.given) (coming_on (Taker lane taken) u.given) × Awaits (key_of lane.epoch) taken u
 comes_of lane taken t u x at one =
     let key = key_of lane.epoch in
     let all = subst (λ (vs : List Verdict). EachFrom (IsTold key) t.given vs) one.left at.left in
@@ -77,7 +55,7 @@ comes_of lane taken t u x at one =
 
 -- the next of those that came is given
 pub gives_kept : (v back : View LaneKey) (t u : Told) (x : Verdict) → AwaitsOn v back t → GivesOne x t u
-    → Comes x (coming_on v t.given) (coming_on v u.given) × AwaitsOn v back u
+    → VerdictComes x (coming_on v t.given) (coming_on v u.given) × AwaitsOn v back u
 gives_kept (Taker lane taken) back t u x at one = let so = comes_of lane taken t u x at.0 one in (so.0, (so.1, at.1))
 gives_kept (Sender lane sent ended) back t u x at one = let clash : [] ≡ one.first ∷ one.rest = sym at.0 ∙ one.left in absurd (cc clash)
 gives_kept Fresh back t u x at one = let clash : [] ≡ one.first ∷ one.rest = sym at.0 ∙ one.left in absurd (cc clash)
@@ -109,27 +87,29 @@ abbrev pub is_judged : LaneKey → ℕ → Judged → Type 0
 is_judged key k x = IsJudged (key_of key.epoch) k x
 
 -- the batch of those that came goes back
-pub back_to : (v w back : View LaneKey) (x : Judged) (t : Told) → Takes is_judged v x w → AwaitsOn v back t → (key : UnitsKey) × GoesBack back key × IsLineOf (lean_of key) x.batch.line
+pub back_to : (v w back : View LaneKey) (x : Judged) (t : Told) → TakesItem is_judged v x w → AwaitsOn v back t → (key : UnitsKey) × GoesBack back key
+    × IsLineOf (lean_of key) x.batch.line
 back_to (Taker lane taken) w back x t took at = (key_of lane.epoch, at.1, took.0.line)
 back_to (Sender lane sent ended) w back x t took at = absurd took
 back_to Fresh w back x t took at = absurd took
 back_to Spent w back x t took at = absurd took
 
 -- others came
-pub refilled : (v w back after : View LaneKey) (x : Judged) (t r : Told) → Takes is_judged v x w
+pub refilled : (v w back after : View LaneKey) (x : Judged) (t r : Told) → TakesItem is_judged v x w
     → AwaitsOn v back t → left_of t ≡ [] → t.over ≡ false → ((key : UnitsKey) → GoesBack back key → GoesBack after key)
     → left_of r ≡ left_to_give x.told → r.over ≡ is_over x → r.given ≡ t.given → AwaitsOn w after r × (coming_on w r.given ≡ coming_on v t.given)
 refilled (Taker lane taken) w back after x t r took at none still back_on left over given =
     let key = key_of lane.epoch in
     let zero_left = ap length none in
     let start = at.0.next still in
-    let here : r.given ≡ begins key taken = omega (arith, given, zero_left, start) in
+    let here : r.given ≡ batch_begins key taken = omega (arith, given, zero_left, start) in
     let many = ap length left in
     let few = took.0.few in (
       subst (λ (u : View LaneKey). AwaitsOn u after r) (sym took.1) (
         record {
           left = subst (λ (q : ℕ × List Verdict). EachFrom (IsTold key) q.0 q.1) (λ i. (sym here i, sym left i)) took.0.told;
-          next = λ goes. behind_whole key taken (length (left_to_give x.told)) (r.given + length (left_of r)) (took.0.whole (sym over ∙ goes)) (omega (arith, here, many));
+          next = λ goes. behind_whole key taken (length (left_to_give x.told)) (r.given + length (left_of r)) (took.0.whole (sym over ∙ goes))
+              (omega (arith, here, many));
           few = omega (arith, here, many, few);
         },
         back_on key at.1,
@@ -137,15 +117,16 @@ refilled (Taker lane taken) w back after x t r took at none still back_on left o
       ap (λ (u : View LaneKey). coming_on u r.given) took.1 ∙ ap (λ (k : ℕ). coming_on (Taker lane taken) k) given,
     )
   where
-    behind_whole : (key : UnitsKey) (b many sum : ℕ) → many ≡ size key b → sum ≡ begins key b + many → sum ≡ begins key (b + 1)
+    behind_whole : (key : UnitsKey) (b many sum : ℕ) → many ≡ size key b → sum ≡ batch_begins key b + many → sum ≡ batch_begins key (b + 1)
     behind_whole key b many sum full is =
-        let next : b + 1 ≡ suc b = omega arith in is ∙ ap (λ (k : ℕ). begins key b + k) full ∙ ap (begins key) (sym next)
+        let next : b + 1 ≡ suc b = omega arith in is ∙ ap (λ (k : ℕ). batch_begins key b + k) full ∙ ap (batch_begins key) (sym next)
 refilled (Sender lane sent ended) w back after x t r took at none still back_on left over given = absurd took
 refilled Fresh w back after x t r took at none still back_on left over given = absurd took
 refilled Spent w back after x t r took at none still back_on left over given = absurd took
 
 -- .. and the first of them is given, or there are none
 pub first_given : (w back : View LaneKey) (r u : Told) (out : Option Verdict) → AwaitsOn w back r → GivesNext out r u
-    → MatchOption out (coming_on w u.given ≡ coming_on w r.given) (λ (verdict : Verdict). Comes verdict (coming_on w r.given) (coming_on w u.given)) × AwaitsOn w back u
+    → MatchOption out (coming_on w u.given ≡ coming_on w r.given) (λ (verdict : Verdict). VerdictComes verdict (coming_on w r.given) (coming_on w u.given))
+    × AwaitsOn w back u
 first_given w back r u (Some verdict) at next = gives_kept w back r u verdict at next
 first_given w back r u None at next = let kept = none_kept w back r u at next.0 next.1 next.2 next.3 in (kept.1, kept.0)

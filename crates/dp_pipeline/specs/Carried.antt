@@ -9,11 +9,11 @@ use Rattle.dp_lean_machine.specs.declared.batch.BatchStatus.TheVariants.{Going, 
 use Rattle.dp_lean_machine.specs.Sent.{IsSent}
 use Rattle.dp_semantics.specs.EpochVerdicts.{verdict_at}
 use Rattle.dp_judge.specs.declared.verdict.Verdict.{Verdict}
-use Rattle.dp_judge.specs.Told.{Says, goes_on_behind}
+use Rattle.dp_judge.specs.Told.{SaysDecided, goes_on_behind}
 use Rattle.dp_judge.specs.Decided.{left_to_give}
 use Rattle.dp_pipeline.specs.declared.carried.Carried.{Carried}
 use Rattle.dp_pipeline.specs.declared.judged.Judged.{Judged}
-use Rattle.dp_pipeline.specs.Sizes.{begins, size, EachFrom}
+use Rattle.dp_pipeline.specs.Sizes.{batch_begins, size, EachFrom}
 use Rattle.dp_relay.specs.UnitsKey.{UnitsKey}
 
 -- the epoch as that of a pipeline of columns
@@ -49,11 +49,11 @@ is_last_judged key x = is_over x
 
 -- it is the verdict on the epoch's k-th iteration, unless memory was wanting
 abbrev pub IsTold : UnitsKey → ℕ → Verdict → Type 0
-IsTold key k v = Says key.epoch v (verdict_at key.epoch k)
+IsTold key k v = SaysDecided key.epoch v (verdict_at key.epoch k)
 
 -- These are the verdicts on the epoch's b-th batch, and none of them is wanting where others follow.
 pub record IsJudged (key : UnitsKey) (b : ℕ) (x : Judged) : Type 0 where
   pub line : IsLineOf (lean_of key) x.batch.line
-  pub told : EachFrom (IsTold key) (begins key b) (left_to_give x.told)
+  pub told : EachFrom (IsTold key) (batch_begins key b) (left_to_give x.told)
   pub whole : is_over x ≡ false → length (left_to_give x.told) ≡ size key b
-  pub few : begins key b + length (left_to_give x.told) < 2 ^ 62
+  pub few : batch_begins key b + length (left_to_give x.told) < 2 ^ 62

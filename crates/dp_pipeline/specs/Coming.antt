@@ -3,7 +3,7 @@ use Rattle.std.specs.Prelude.{◌≡◌, ℕ, ◌+◌, false, []}
 use Rattle.dp_semantics.specs.EpochKey.{EpochKey}
 use Rattle.dp_semantics.specs.EpochVerdicts.{verdict_at}
 use Rattle.dp_judge.specs.declared.verdict.Verdict.{Verdict}
-use Rattle.dp_judge.specs.Told.{Says}
+use Rattle.dp_judge.specs.Told.{SaysDecided}
 use Rattle.dp_lane.specs.declared.rule.View.{View}
 use Rattle.dp_lane.specs.declared.rule.View.TheVariants.{Taker}
 use Rattle.dp_pipeline.specs.declared.keys.EpochKey.{EpochKey as Held}
@@ -37,7 +37,7 @@ coming_on (Taker lane taken) given = record { key = (key_of lane.epoch).epoch; g
 coming_on _ given = record { key = no_key; given = given }
 
 -- the next verdict came
-pub record Comes (verdict : Verdict) (old new : Coming) : Type 0 where
-  pub verdict_is : Says old.key verdict (verdict_at old.key old.given)
+pub record VerdictComes (verdict : Verdict) (old new : Coming) : Type 0 where
+  pub verdict_is : SaysDecided old.key verdict (verdict_at old.key old.given)
   pub key_is : new.key ≡ old.key
   pub given_is : new.given ≡ old.given + 1

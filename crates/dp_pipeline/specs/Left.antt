@@ -9,7 +9,7 @@ use Rattle.dp_relay.specs.UnitsKey.{UnitsKey}
 use Rattle.dp_pipeline.specs.Carried.{IsTold}
 use Rattle.dp_pipeline.specs.Keys.{key_of}
 use Rattle.dp_pipeline.specs.Lanes.{GoesBack}
-use Rattle.dp_pipeline.specs.Sizes.{begins, EachFrom}
+use Rattle.dp_pipeline.specs.Sizes.{batch_begins, EachFrom}
 use Rattle.dp_pipeline.specs.declared.keys.LaneKey.{LaneKey}
 use Rattle.dp_pipeline.specs.declared.told.Told.{Told}
 
@@ -20,7 +20,7 @@ left_of t = left_to_give t.batch
 -- so many batches came, and these are the verdicts on the last of them that aren't given yet
 pub record Awaits (key : UnitsKey) (taken : ℕ) (t : Told) : Type 0 where
   pub left : EachFrom (IsTold key) t.given (left_of t)
-  pub next : t.over ≡ false → t.given + length (left_of t) ≡ begins key taken
+  pub next : t.over ≡ false → t.given + length (left_of t) ≡ batch_begins key taken
   pub few : t.given + length (left_of t) < 2 ^ 63
 
 -- the next is given, and what was behind it is left; or memory was wanting for it, and no others follow

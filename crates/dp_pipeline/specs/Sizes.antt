@@ -4,8 +4,8 @@ use Rattle.dp_net.specs.Batches.{batch_begin, batch_size}
 use Rattle.dp_relay.specs.UnitsKey.{UnitsKey}
 
 -- the place of a batch's first iteration
-abbrev pub begins : UnitsKey → ℕ → ℕ
-begins key b = batch_begin key.epoch key.cap b
+abbrev pub batch_begins : UnitsKey → ℕ → ℕ
+batch_begins key b = batch_begin key.epoch key.cap b
 
 -- how many iterations it may have
 abbrev pub size : UnitsKey → ℕ → ℕ

@@ -3,7 +3,7 @@ use Rattle.std.specs.Prelude.{◌≡◌, ◌≤◌, ℕ, ◌-◌, true, length, 
 use Rattle.dp_plan.specs.Access.{is_replicated}
 use Rattle.dp_relay.specs.UnitsKey.{UnitsKey}
 use Rattle.dp_lean_machine.specs.declared.machine.LeanMachine.{LeanMachine}
-use Rattle.dp_lean_machine.specs.Standing.{Stands}
+use Rattle.dp_lean_machine.specs.Standing.{MachineStands}
 use Rattle.dp_judge.specs.declared.court.LeanCourt.{LeanCourt}
 use Rattle.dp_judge.specs.Judging.{Judges}
 use Rattle.dp_pipeline.specs.Carried.{lean_of}
@@ -11,15 +11,15 @@ use Rattle.dp_pipeline.specs.declared.staged.Staged.{Staged}
 use Rattle.dp_pipeline.specs.declared.judge.Judge.{Judge}
 
 -- the machine takes the batch at this place next; that of a replicated stage takes any
-abbrev pub StandsFor : LeanMachine → UnitsKey → Option ℕ → Type 0
-StandsFor m key (Some b) = Stands m (lean_of key) b
-StandsFor m key None = (is_replicated key.epoch.plan m.stage ≡ true) × ((b : ℕ) → Stands m (lean_of key) b)
+abbrev pub StandsForBatch : LeanMachine → UnitsKey → Option ℕ → Type 0
+StandsForBatch m key (Some b) = MachineStands m (lean_of key) b
+StandsForBatch m key None = (is_replicated key.epoch.plan m.stage ≡ true) × ((b : ℕ) → MachineStands m (lean_of key) b)
 
 -- It is stage s of the epoch, and stands at this place.
 pub record RunsAt (x : Staged) (key : UnitsKey) (s : ℕ) (place : Option ℕ) : Type 0 where
   pub stage : x.machine.stage ≡ s
   pub fuel : x.fuel ≡ key.epoch.fuel
-  pub stands : StandsFor x.machine key place
+  pub stands : StandsForBatch x.machine key place
 
 -- the batch at this place is judged next
 abbrev pub JudgesFor : LeanCourt → UnitsKey → Option ℕ → Type 0

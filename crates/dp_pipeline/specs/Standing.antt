@@ -15,24 +15,24 @@ use Rattle.dp_pipeline.specs.declared.passage.Passage.{Passage}
 use Rattle.dp_pipeline.specs.declared.judging.Judging.{Judging}
 use Rattle.dp_relay.specs.Facts.{Facts}
 use Rattle.dp_pipeline.specs.Lanes.{TakesFrom, SendsTo}
-use Rattle.dp_pipeline.specs.Sizes.{begins}
+use Rattle.dp_pipeline.specs.Sizes.{batch_begins}
 use Rattle.dp_pipeline.specs.steps.Supplying.{Supplies}
 use Rattle.dp_pipeline.specs.Seats.{CollectsFrom, PutsTo, seat_facts}
 
 -- what starts the epoch's iterations, n batches of which were started
 pub record Starts (x : First) (key : UnitsKey) (s n : ℕ) : Type 0 where
   pub first : x.first ≡ key.epoch.first
-  pub next : x.next ≡ key.epoch.first + begins key n
+  pub next : x.next ≡ key.epoch.first + batch_begins key n
   pub fuel : x.fuel ≡ key.epoch.fuel
   pub cap : x.cap ≡ key.cap
   pub supply : Supplies x.supply key
   pub stage : s ≡ 0
 
 -- what stage s sends in the epoch comes from here, and n items came
-abbrev pub Gives : Source → UnitsKey → ℕ → ℕ → Type 0
-Gives (source.Start x) key s n = Starts x key s n
-Gives (source.Lane end) key s n = TakesFrom end.view key s n
-Gives (source.Ring seat) key s n = CollectsFrom seat key s n
+abbrev pub GivesBatches : Source → UnitsKey → ℕ → ℕ → Type 0
+GivesBatches (source.Start x) key s n = Starts x key s n
+GivesBatches (source.Lane end) key s n = TakesFrom end.view key s n
+GivesBatches (source.Ring seat) key s n = CollectsFrom seat key s n
 
 -- what stage s sends in the epoch goes here, and n items went
 abbrev pub Gets : Target → UnitsKey → ℕ → ℕ → Type 0
@@ -40,16 +40,16 @@ Gets (target.Lane end) key s n = SendsTo end.view key s n
 Gets (target.Ring seat) key s n = PutsTo seat key s n
 
 module _ {K : Type 0} where
-  abbrev pub taken_by : View K → ℕ
-  taken_by (Taker key taken) = taken
-  taken_by _ = 0
+  abbrev pub taker_count : View K → ℕ
+  taker_count (Taker key taken) = taken
+  taker_count _ = 0
 
-  abbrev pub ended_by : View K → Bool
-  ended_by (Sender key sent ended) = ended
-  ended_by _ = false
+  abbrev pub sender_ended : View K → Bool
+  sender_ended (Sender key sent ended) = ended
+  sender_ended _ = false
 
   abbrev pub taken_facts : End K → Facts
-  taken_facts end = record { count = taken_by end.view; tries = end.refused; word = 0; at_ring = false }
+  taken_facts end = record { count = taker_count end.view; tries = end.refused; word = 0; at_ring = false }
 
   abbrev pub sent_facts : End K → Facts
   sent_facts end = record { count = sent_by end.view; tries = end.refused; word = 0; at_ring = false }
@@ -65,31 +65,31 @@ target_facts (target.Ring seat) = seat_facts seat
 
 -- the item that was sent last is an ending one
 abbrev pub target_ended : Target → Bool
-target_ended (target.Lane end) = ended_by end.view
+target_ended (target.Lane end) = sender_ended end.view
 target_ended (target.Ring seat) = seat.view.ended
 
 -- the ends of stage s: the next item is the n-th
 pub record IsReady (ends : Passage) (key : UnitsKey) (s : ℕ) (place : Option ℕ) : Type 0 where
   pub at : ℕ
   pub place_is : place ≡ Some at
-  pub from : Gives ends.source key (s - 1) at
+  pub from : GivesBatches ends.source key (s - 1) at
   pub to : Gets ends.target key s at
 
 -- .. and the n-th was taken
 pub record IsHolding (ends : Passage) (key : UnitsKey) (s : ℕ) (place : Option ℕ) (at : ℕ) : Type 0 where
   pub place_is : place ≡ Some at
-  pub from : Gives ends.source key (s - 1) (at + 1)
+  pub from : GivesBatches ends.source key (s - 1) (at + 1)
   pub to : Gets ends.target key s at
 
 -- the ends of the try-commit unit: the next item is the n-th
 pub record MayJudge (ends : Judging) (key : UnitsKey) (s : ℕ) (place : Option ℕ) : Type 0 where
   pub at : ℕ
   pub place_is : place ≡ Some at
-  pub from : Gives ends.source key (s - 1) at
+  pub from : GivesBatches ends.source key (s - 1) at
   pub to : SendsTo ends.verdicts.view key s at
 
 -- .. and the n-th was taken
 pub record HasJudged (ends : Judging) (key : UnitsKey) (s : ℕ) (place : Option ℕ) (at : ℕ) : Type 0 where
   pub place_is : place ≡ Some at
-  pub from : Gives ends.source key (s - 1) (at + 1)
+  pub from : GivesBatches ends.source key (s - 1) (at + 1)
   pub to : SendsTo ends.verdicts.view key s at

@@ -15,7 +15,7 @@ pub struct Judging<'p> {
 }
 
 impl<'p> Ends<Carried<'p>, Judged<'p>> for Judging<'p> {
-    ghost use Rattle.dp_pipeline.specs.Standing.{MayJudge, HasJudged, source_facts, sent_facts, ended_by};
+    ghost use Rattle.dp_pipeline.specs.Standing.{MayJudge, HasJudged, source_facts, sent_facts, sender_ended};
 
     ghost ready = { MayJudge };
 
@@ -25,7 +25,7 @@ impl<'p> Ends<Carried<'p>, Judged<'p>> for Judging<'p> {
 
     ghost sending = { λ ends. sent_facts ends.verdicts };
 
-    ghost ended = { λ ends. ended_by ends.verdicts.view };
+    ghost ended = { λ ends. sender_ended ends.verdicts.view };
 
     fn take<R: Wait>(&mut self, rt: &R) -> Result<Carried<'p>, IdleWhy> {
         self.source.take(rt)

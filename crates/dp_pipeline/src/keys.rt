@@ -3,7 +3,7 @@ ghost use Rattle.std.specs.Prelude.{◌≡◌, IfOk};
 ghost use Rattle.dp_prepared.specs.Planned.{prepared_of};
 ghost use Rattle.dp_pipeline.specs.Begin.{units_key_at};
 ghost use Rattle.dp_pipeline.specs.Keys.{key_of};
-ghost use Rattle.dp_lean_region.specs.Line.{cap_of, plan_of, program_of};
+ghost use Rattle.dp_lean_region.specs.Line.{cap_of, line_plan, line_program};
 
 use dp_base::{Cells, NoMemory};
 use dp_lean_region::Line;
@@ -55,10 +55,11 @@ impl<'p> Drop for EpochKey<'p> {
 impl<'u> EpochKey<'u> {
     /// The key of the line's epoch that begins so, with a memory of its own.
     pub(crate) fn copied(line: Line<'u>, begin: Begin<'_>) -> Result<EpochKey<'u>, NoMemory>
-        ensures program { IfOk result (λ key. key.p.now ≡ program_of line.entry) }
-        ensures plan { IfOk result (λ key. key.plan.now ≡ plan_of line.entry) }
+        ensures program { IfOk result (λ key. key.p.now ≡ line_program line.entry) }
+        ensures plan { IfOk result (λ key. key.plan.now ≡ line_plan line.entry) }
         ensures cap { IfOk result (λ key. key.cap ≡ cap_of line.entry) }
-        ensures key { IfOk result (λ key. key_of key ≡ units_key_at (prepared_of (program_of line.entry) (plan_of line.entry)) line.entry.input.now begin.entry (cap_of line.entry)) }
+        ensures key { IfOk result (λ key. key_of key ≡ units_key_at (prepared_of (line_program line.entry) (line_plan line.entry)) line.entry.input.now
+            begin.entry (cap_of line.entry)) }
     {
         Ok(EpochKey {
             p: line.program(),

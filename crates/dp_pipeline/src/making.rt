@@ -5,7 +5,7 @@ ghost use Rattle.dp_pipeline.specs.Coming.{coming_of};
 ghost use Rattle.dp_pipeline.specs.Keys.{key_of};
 ghost use Rattle.dp_pipeline.specs.Lanes.{GoesBack};
 ghost use Rattle.dp_pipeline.specs.steps.Setting.{IsSetting};
-ghost use Rattle.dp_pipeline.specs.Standing.{Gives, source_facts};
+ghost use Rattle.dp_pipeline.specs.Standing.{GivesBatches, source_facts};
 ghost use Rattle.dp_pipeline.specs.UnitCount.{unit_count};
 
 use crate::carried::Carried;
@@ -34,8 +34,8 @@ fn add_stage<'u>(
 ) -> Result<Source<'u>, NoMemory>
     requires setting { IsSetting setting.now }
     requires within { setting.now.key.stage ≤ length setting.now.key.epoch.plan.now.stages }
-    requires source { Gives source (key_of setting.now.key.epoch) (setting.now.key.stage - 1) 0 × ((source_facts source).count ≡ 0) }
-    ensures next { IfOk result (λ next. Gives next (key_of setting.now.key.epoch) setting.now.key.stage 0 × ((source_facts next).count ≡ 0)) }
+    requires source { GivesBatches source (key_of setting.now.key.epoch) (setting.now.key.stage - 1) 0 × ((source_facts source).count ≡ 0) }
+    ensures next { IfOk result (λ next. GivesBatches next (key_of setting.now.key.epoch) setting.now.key.stage 0 × ((source_facts next).count ≡ 0)) }
     ensures count { OnOk result (length units.new ≡ length units.old + 1) }
     ensures setter { setter.new ≡ setter.old }
 {
@@ -66,8 +66,8 @@ fn add_replicated<'u>(
     requires stage { setting.old.key.stage < 2 ^ 32 - 1 }
     requires within { setting.old.key.stage < length setting.old.key.epoch.plan.now.stages }
     requires replicated { is_replicated setting.old.key.epoch.plan.now (suc setting.old.key.stage) ≡ true }
-    requires source { Gives source (key_of setting.old.key.epoch) (setting.old.key.stage - 1) 0 × ((source_facts source).count ≡ 0) }
-    ensures next { IfOk result (λ next. Gives next (key_of setting.old.key.epoch) (setting.old.key.stage + 1) 0 × ((source_facts next).count ≡ 0)) }
+    requires source { GivesBatches source (key_of setting.old.key.epoch) (setting.old.key.stage - 1) 0 × ((source_facts source).count ≡ 0) }
+    ensures next { IfOk result (λ next. GivesBatches next (key_of setting.old.key.epoch) (setting.old.key.stage + 1) 0 × ((source_facts next).count ≡ 0)) }
     ensures count { OnOk result (length units.new ≡ length units.old + (setting.old.size.workers + 1)) }
     ensures key { OnOk result (setting.new.key ≡ record { epoch = setting.old.key.epoch; stage = setting.old.key.stage + 1 }) }
     ensures rest { (setting.new.line ≡ setting.old.line) × (setting.new.size ≡ setting.old.size) }
@@ -98,11 +98,10 @@ fn add_replicated<'u>(
 fn started<'u>(alloc: Global, setting: &Setting<'u>) -> Result<(Back<'u>, Source<'u>), NoMemory>
     requires setting { IsSetting setting.now }
     ensures back { IfOk result (λ made. GoesBack made.0.end.view (key_of setting.now.key.epoch)) }
-    ensures source { IfOk result (λ made. Gives made.1 (key_of setting.now.key.epoch) 0 0 × ((source_facts made.1).count ≡ 0)) }
+    ensures source { IfOk result (λ made. GivesBatches made.1 (key_of setting.now.key.epoch) 0 0 × ((source_facts made.1).count ≡ 0)) }
 {
     let epoch = &setting.key.epoch;
-    let lanes = (epoch.plan.stages.len() as u32).saturating_add(2);
-    let (back, supply) = way_back(alloc, &setting.key, setting.line, lanes, setting.size.lane)?;
+    let (back, supply) = way_back(alloc, &setting.key, setting.line, setting.size.lane)?;
     let start = Start::new(epoch.first, epoch.fuel, epoch.cap, supply);
     Ok((back, Source::Start(start)))
 }

@@ -22,12 +22,13 @@ impl<'p> Source<'p> {
     ghost use Rattle.dp_relay.specs.UnitsKey.{UnitsKey};
     ghost use Rattle.dp_pipeline.specs.Carried.{IsCarried};
     ghost use Rattle.dp_relay.specs.Facts.{Takes};
-    ghost use Rattle.dp_pipeline.specs.Standing.{Gives, source_facts};
+    ghost use Rattle.dp_pipeline.specs.Standing.{GivesBatches, source_facts};
 
     /// Takes the next batch.
     pub(crate) fn take<R: Wait>(&mut self, rt: &R) -> Result<Carried<'p>, IdleWhy>
-        ensures took { IfOk result (λ item. (key : UnitsKey) (s n : ℕ) → Gives self.old key s n → IsCarried key s n item × Gives self.new key s (n + 1)) }
-        ensures idle { OnErr result ((key : UnitsKey) (s n : ℕ) → Gives self.old key s n → Gives self.new key s n) }
+        ensures took { IfOk result (λ item. (key : UnitsKey) (s n : ℕ) → GivesBatches self.old key s n → IsCarried key s n item
+            × GivesBatches self.new key s (n + 1)) }
+        ensures idle { OnErr result ((key : UnitsKey) (s n : ℕ) → GivesBatches self.old key s n → GivesBatches self.new key s n) }
         ensures taking { Takes result (source_facts self.old) (source_facts self.new) }
     {
         match self {

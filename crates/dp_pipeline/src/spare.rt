@@ -51,13 +51,12 @@ impl<'p> Back<'p> {
     }
 }
 
-/// The way back for batches of the key's epoch that were judged, and what gives them out again. So many lanes of so many places
-/// hold the batches of an epoch, and all of them may be on their way back at once.
+/// The way back for batches of the key's epoch that were judged, and what gives them out again. It has as many places as a lane:
+/// the first stage takes a batch back before it has another one made, and one for which there is no place is freed.
 pub(crate) fn way_back<'p>(
     alloc: Global,
     key: &LaneKey<'p>,
     line: Line<'p>,
-    lanes: u32,
     places: u32,
 ) -> Result<(Back<'p>, Supply<'p>), NoMemory>
     requires lean { IsLeanEpoch (lean_of (key_of key.now.epoch)) }
@@ -65,8 +64,7 @@ pub(crate) fn way_back<'p>(
     ensures back { IfOk result (λ made. GoesBack made.0.end.view (key_of key.now.epoch)) }
     ensures supply { IfOk result (λ made. Supplies made.1 (key_of key.now.epoch)) }
 {
-    let room = lanes.saturating_mul(places).max(1);
-    let (end, spares) = lane::<Spare>(alloc, key, room)?;
+    let (end, spares) = lane::<Spare>(alloc, key, places.max(1))?;
     let supply = Supply::new(alloc, line, spares)?;
     Ok((Back { end }, supply))
 }

@@ -6,7 +6,7 @@ ghost use Rattle.dp_pipeline.specs.Keys.{key_of};
 ghost use Rattle.dp_pipeline.specs.Seats.{IsUnused};
 ghost use Rattle.dp_pipeline.specs.steps.Setting.{IsSetting};
 ghost use Rattle.dp_pipeline.specs.Staging.{RunsAt};
-ghost use Rattle.dp_pipeline.specs.Standing.{Gives, Gets, source_facts, target_facts, target_ended};
+ghost use Rattle.dp_pipeline.specs.Standing.{GivesBatches, Gets, source_facts, target_facts, target_ended};
 
 use crate::carried::Carried;
 use crate::passage::Passage;
@@ -62,7 +62,7 @@ pub(crate) fn add_unit<'u>(
 ) -> Result<(), NoMemory>
     requires setting { IsSetting setting.now }
     requires stage { (0 < stage) × (stage ≤ length setting.now.key.epoch.plan.now.stages) }
-    requires start { Gives source (key_of setting.now.key.epoch) (stage - 1) 0 × Gets target (key_of setting.now.key.epoch) stage 0 }
+    requires start { GivesBatches source (key_of setting.now.key.epoch) (stage - 1) 0 × Gets target (key_of setting.now.key.epoch) stage 0 }
     requires counts { ((source_facts source).count ≡ 0) × ((target_facts target).count ≡ 0) × (target_ended target ≡ false) }
     ensures count { OnOk result (length units.new ≡ length units.old + 1) }
     ensures setter { setter.new ≡ setter.old }

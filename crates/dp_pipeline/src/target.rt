@@ -28,7 +28,8 @@ impl<'p> Target<'p> {
         item: Carried<'p>,
     ) -> Result<(), Refused<Carried<'p>>>
         requires { (key : UnitsKey) × (s : ℕ) × (n : ℕ) × Gets self.old key s n × IsCarried key s n item }
-        ensures sent { OnOk result ((key : UnitsKey) (s n : ℕ) → Gets self.old key s n → IsCarried key s n item.entry → Gets self.new key s (n + 1) × (target_ended self.new ≡ is_last_carried key item.entry)) }
+        ensures sent { OnOk result ((key : UnitsKey) (s n : ℕ) → Gets self.old key s n → IsCarried key s n item.entry → Gets self.new key s (n + 1)
+            × (target_ended self.new ≡ is_last_carried key item.entry)) }
         ensures held { OnErr result ((key : UnitsKey) (s n : ℕ) → Gets self.old key s n → Gets self.new key s n) }
         ensures back { IfErr result (λ refused. refused.item ≡ item.entry) }
         ensures ended { OnErr result (target_ended self.new ≡ target_ended self.old) }

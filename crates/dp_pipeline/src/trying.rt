@@ -8,7 +8,7 @@ ghost use Rattle.dp_pipeline.specs.Coming.{coming_of};
 ghost use Rattle.dp_pipeline.specs.Keys.{key_of};
 ghost use Rattle.dp_pipeline.specs.Lanes.{GoesBack};
 ghost use Rattle.dp_pipeline.specs.steps.Setting.{IsSetting};
-ghost use Rattle.dp_pipeline.specs.Standing.{Gives, source_facts};
+ghost use Rattle.dp_pipeline.specs.Standing.{GivesBatches, source_facts};
 
 use crate::judge::Judge;
 use crate::judged::Judged;
@@ -46,7 +46,7 @@ fn judging_unit<'u>(
 ) -> Result<Unit<'u>, NoMemory>
     requires setting { IsSetting setting }
     requires stage { setting.key.stage ≡ length setting.key.epoch.plan.now.stages + 1 }
-    requires source { Gives source (key_of setting.key.epoch) (setting.key.stage - 1) 0 }
+    requires source { GivesBatches source (key_of setting.key.epoch) (setting.key.stage - 1) 0 }
     requires count { (source_facts source).count ≡ 0 }
     requires verdicts { verdicts ≡ new_end (Sender setting.key 0 false) setting.size.lane }
     requires seat { seat.seen ≡ false }
@@ -68,7 +68,7 @@ pub(crate) fn add_judging<'u>(
 ) -> Result<LaneVerdicts<'u>, NoMemory>
     requires setting { IsSetting setting }
     requires stage { setting.key.stage ≡ length setting.key.epoch.plan.now.stages + 1 }
-    requires source { Gives source (key_of setting.key.epoch) (setting.key.stage - 1) 0 }
+    requires source { GivesBatches source (key_of setting.key.epoch) (setting.key.stage - 1) 0 }
     requires back { GoesBack back.end.view (key_of setting.key.epoch) }
     requires count { (source_facts source).count ≡ 0 }
     ensures verdicts { IfOk result (λ verdicts. verdicts ≡ coming_of setting.entry.key.epoch) }

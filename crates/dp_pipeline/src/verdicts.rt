@@ -57,14 +57,14 @@ impl<'u> Model for LaneVerdicts<'u> {
 impl<'u> LaneVerdicts<'u> {
     ghost use Rattle.std.specs.Prelude.{◌≡◌, ◌+◌, ◌<◌, ℕ, true, MatchOption};
     ghost use Rattle.dp_semantics.specs.EpochVerdicts.{goes_on, verdict_at};
-    ghost use Rattle.dp_judge.specs.Told.{Says};
-    ghost use Rattle.dp_pipeline.specs.Coming.{Comes, coming_on};
+    ghost use Rattle.dp_judge.specs.Told.{SaysDecided};
+    ghost use Rattle.dp_pipeline.specs.Coming.{VerdictComes, coming_on};
     ghost use Rattle.dp_pipeline.specs.Left.{BackOf};
-    ghost use Rattle.dp_pipeline.specs.Standing.{taken_by};
+    ghost use Rattle.dp_pipeline.specs.Standing.{taker_count};
 
     /// Verdicts that come on this end, from which nothing was taken, and no units. Batches that were judged are sent back.
     pub(crate) fn new(alloc: Global, end: TakeEnd<Judged<'u>>, back: Back<'u>) -> LaneVerdicts<'u>
-        requires none { taken_by end.view ≡ 0 }
+        requires none { taker_count end.view ≡ 0 }
         requires back { BackOf end.view back.end.view }
         ensures { result ≡ coming_on end.entry.view 0 }
     {
@@ -116,10 +116,17 @@ impl<'u> LaneVerdicts<'u> {
         self.own.pop()
     }
 
+    /// The units that it polls stand the other way round.
+    pub fn turn_units(&mut self)
+        ensures { self.new ≡ self.old }
+    {
+        self.own.as_mut_slice().reverse();
+    }
+
     /// The verdict on the next iteration. There is none after one that isn't Clean or that closes the region.
     pub fn next<R: Wait + Clock>(&mut self, rt: &R) -> Verdict
         requires { (n : ℕ) → n < self.old.given → goes_on (verdict_at self.old.key n) ≡ true }
-        ensures verdict { Says self.old.key result (verdict_at self.old.key self.old.given) }
+        ensures verdict { SaysDecided self.old.key result (verdict_at self.old.key self.old.given) }
         ensures key { self.new.key ≡ self.old.key }
         ensures given { self.new.given ≡ self.old.given + 1 }
     {
@@ -134,7 +141,7 @@ impl<'u> LaneVerdicts<'u> {
 
     /// The next verdict, if it has come.
     fn take<R: Wait>(&mut self, rt: &R) -> Option<Verdict>
-        ensures { MatchOption result (self.new ≡ self.old) (λ verdict. Comes verdict self.old self.new) }
+        ensures { MatchOption result (self.new ≡ self.old) (λ verdict. VerdictComes verdict self.old self.new) }
     {
         if let Some(verdict) = self.told.next() {
             return Some(verdict);

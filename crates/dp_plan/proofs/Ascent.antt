@@ -11,7 +11,8 @@ Ascends k (n ∷ rest) = (n ≡ k) × Ascends (suc k) rest
 
 pub ascends-numbers_from : (k n : ℕ) → Ascends k (numbers_from k n)
 ascends-numbers_from k zero = tt
-ascends-numbers_from k (suc n) = let e : k + 1 ≡ suc k = omega arith in (refl, subst (λ (i : ℕ). Ascends (suc k) (numbers_from i n)) (sym e) (ascends-numbers_from (suc k) n))
+ascends-numbers_from k (suc n) =
+    let e : k + 1 ≡ suc k = omega arith in (refl, subst (λ (i : ℕ). Ascends (suc k) (numbers_from i n)) (sym e) (ascends-numbers_from (suc k) n))
 
 pub ascends_split : (k : ℕ) (a b : List ℕ) → Ascends k (a ++ b) → Ascends k a × Ascends (k + length a) b
 ascends_split k [] b h = let e : k ≡ k + 0 = omega arith in (tt, subst (λ (i : ℕ). Ascends i b) e h)
@@ -23,8 +24,12 @@ ascends_split k (n ∷ a) b h =
 
 pub above-ascends : (low k : ℕ) (ns : List ℕ) → Ascends k ns → low < k → k + length ns ≤ 2 ^ 32 → AscendAbove low ns
 above-ascends low k [] h lt le = tt
-above-ascends low k (n ∷ rest) h lt le =
-    (omega (arith, h.0, lt), omega (arith, h.0, le), subst (λ (i : ℕ). AscendAbove i rest) (sym h.0) (above-ascends k (suc k) rest h.1 (omega arith) (omega (arith, le))))
+above-ascends low k (n ∷ rest) h lt le = (
+  omega (arith, h.0, lt),
+  omega (arith, h.0, le),
+  subst (λ (i : ℕ). AscendAbove i rest) (sym h.0) (above-ascends k (suc k) rest h.1 (omega arith)
+      (omega (arith, le))),
+)
 
 pub above_less : (low high : ℕ) (ns : List ℕ) → low ≤ high → AscendAbove high ns → AscendAbove low ns
 above_less low high [] le h = tt

@@ -1,5 +1,6 @@
 -- Numbers that are found in a list.
-use Rattle.std.proofs.Common.{◌≡◌, refl, sym, ap, subst, ℕ, ◌==◌, Bool, true, false, ◌||◌, List, [], ◌∷◌, map, filter, length, inl, inr, ◌<◌, ◌≤◌, arith, eq-eqb, eqb-true, ne_eqb}
+use Rattle.std.proofs.Common.{◌≡◌, refl, sym, ap, subst, ℕ, ◌==◌, Bool, true, false, ◌||◌, List, [], ◌∷◌, map, filter, length, inl, inr, ◌<◌, ◌≤◌, arith}
+use Rattle.std.proofs.Common.{eq-eqb, eqb-true, ne_eqb}
 use Rattle.std.proofs.lemmas.Bool.{cases_Bool, or_right}
 use Rattle.dp_plan.specs.Each.{Each}
 use Rattle.dp_plan.specs.Written.{has}

@@ -9,13 +9,13 @@ use Rattle.dp_tree.specs.declared.Stmt.TheVariants as tree
 use Rattle.dp_tree.specs.declared.Program.{Program}
 use Rattle.dp_tree.proofs.Asked.{asked_both}
 use Rattle.dp_plan.specs.Access.{Access, access_at, accesses, region_in}
-use Rattle.dp_plan.specs.Written.{has, site_in, region_sites}
+use Rattle.dp_plan.specs.Written.{has, access_site, region_sites}
 use Rattle.dp_plan.specs.Enclosing.{Enclosing, if_at, ifs, region_ifs}
 use Rattle.dp_plan.specs.Rules.{site_of_condition}
 
 -- the number is found among the sites where it is among the conditions
 abbrev Within : ℕ → List Enclosing → List Access → Type 0
-Within n conditions all = has n (map site_of_condition conditions) ≡ true → has n (map site_in all) ≡ true
+Within n conditions all = has n (map site_of_condition conditions) ≡ true → has n (map access_site all) ≡ true
 
 or_both : (a b c d : Bool) → (a ≡ true → c ≡ true) → (b ≡ true → d ≡ true) → (a || b) ≡ true → (c || d) ≡ true
 or_both true b true d f g e = refl
@@ -27,7 +27,8 @@ has_mapped f n xs ys = ap (has n) (map-append f xs ys) ∙ list_any-append (λ m
 
 within-append : (n : ℕ) (a b : List Enclosing) (xs ys : List Access) → Within n a xs → Within n b ys → Within n (a ++ b) (xs ++ ys)
 within-append n a b xs ys first second e =
-    has_mapped site_in n xs ys ∙ or_both (has n (map site_of_condition a)) (has n (map site_of_condition b)) (has n (map site_in xs)) (has n (map site_in ys)) first second (sym (has_mapped site_of_condition n a b) ∙ e)
+    has_mapped access_site n xs ys ∙ or_both (has n (map site_of_condition a)) (has n (map site_of_condition b)) (has n (map access_site xs))
+    (has n (map access_site ys)) first second (sym (has_mapped site_of_condition n a b) ∙ e)
 
 within_own : (n : ℕ) (x : Stmt) → Within n (if_at x) (access_at x)
 within_own n (tree.If' site cond _ a _ b) = λ e. e

@@ -23,7 +23,8 @@ use Rattle.dp_plan.proofs.StagesBack.{kinds_back, length-lines_from, map_same, s
 
 -- a plan's numbers with these stages and assumptions, and no table
 abbrev bare : Plan → List StageKind → List ℕ → List Assume → Plan
-bare plan kinds table assumed = record { region = plan.region; words = plan.words; stages = kinds; stage_of = table; assume = assumed; proved = plan.proved; checked_at = [] }
+bare plan kinds table assumed =
+    record { region = plan.region; words = plan.words; stages = kinds; stage_of = table; assume = assumed; proved = plan.proved; checked_at = [] }
 
 module _ (p : Program) (plan : Plan) (is : IsPlan p plan) (order : InOrder p plan) where
   abbrev sites : List ℕ
@@ -38,7 +39,8 @@ module _ (p : Program) (plan : Plan) (is : IsPlan p plan) (order : InOrder p pla
   staged : map (stage_of p plan) (region_sites p plan.region) ≡ plan.stage_of
   staged = table_back p plan order.order is.staged
 
-  same_stages : (ns : List ℕ) → Each (λ site. has site (Rattle.dp_plan.specs.Written.listed w) ≡ true) ns → Each (λ site. written_stage w site ≡ stage_of p plan site) ns
+  same_stages : (ns : List ℕ) → Each (λ site. has site (Rattle.dp_plan.specs.Written.listed_sites w) ≡ true) ns →
+      Each (λ site. written_stage w site ≡ stage_of p plan site) ns
   same_stages [] each = tt
   same_stages (n ∷ ns) each = (stage_back p plan 1 plan.stages n each.0, same_stages ns each.1)
 
@@ -56,7 +58,8 @@ module _ (p : Program) (plan : Plan) (is : IsPlan p plan) (order : InOrder p pla
 
   before : plan_before_table p plan.proved w ≡ record plan { checked_at = [] }
   before =
-      ap (λ (kinds : List StageKind). bare plan kinds (map (written_stage w) sites) (filter_map (assumption_at plan.assume) sites)) (kinds_back p plan 1 plan.stages)
+      ap (λ (kinds : List StageKind). bare plan kinds (map (written_stage w) sites) (filter_map (assumption_at plan.assume) sites))
+      (kinds_back p plan 1 plan.stages)
       ∙ ap (λ (t : List ℕ). bare plan plan.stages t (filter_map (assumption_at plan.assume) sites)) table
       ∙ ap (bare plan plan.stages plan.stage_of) assumed
 
@@ -71,6 +74,7 @@ module _ (p : Program) (plan : Plan) (is : IsPlan p plan) (order : InOrder p pla
         most_words = is.most_words;
         some_stage = omega (arith, many, is.some_stage);
         few_stages = omega (arith, many, is.few_stages);
-        stages = stages_fit p plan 1 plan.stages up (subst (λ (t : List ℕ). Each (λ stage. has stage t ≡ true) (numbers_from 1 (length plan.stages))) (sym staged) is.filled);
+        stages = stages_fit p plan 1 plan.stages up (subst (λ (t : List ℕ). Each (λ stage. has stage t ≡ true) (numbers_from 1 (length plan.stages)))
+            (sym staged) is.filled);
         assume = assumed_fit 0 plan.assume is.assume;
       }

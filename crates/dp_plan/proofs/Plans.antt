@@ -9,7 +9,8 @@ use Rattle.dp_tree.proofs.Build.{assume}
 
 -- a plan of region 1, by W, the stages' kinds, the stage of each site, and the assumptions
 abbrev pub plan : ℕ → List StageKind → List ℕ → List Assume → Plan
-plan words stages stage_of assumed = record { region = 1; words = words; stages = stages; stage_of = stage_of; assume = assumed; proved = false; checked_at = [] }
+plan words stages stage_of assumed =
+    record { region = 1; words = words; stages = stages; stage_of = stage_of; assume = assumed; proved = false; checked_at = [] }
 
 -- the plan in version 2
 abbrev pub proved : Plan → Plan

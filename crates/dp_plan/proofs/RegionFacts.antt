@@ -9,7 +9,7 @@ use Rattle.dp_tree.specs.Numbering.{site_numbers_all}
 use Rattle.dp_plan.specs.declared.Plan.{Plan}
 use Rattle.dp_plan.specs.Stage.{first_site, first_site_of}
 use Rattle.dp_plan.specs.Access.{accesses}
-use Rattle.dp_plan.specs.Written.{region_sites, site_in}
+use Rattle.dp_plan.specs.Written.{region_sites, access_site}
 use Rattle.dp_plan.proofs.Ascent.{Ascends, ascends-numbers_from}
 use Rattle.dp_plan.proofs.RegionOrder.{Sought, absent, present, find_region}
 use Rattle.dp_plan.proofs.TopStatements.{fewer_regions}
@@ -29,16 +29,21 @@ module _ (p : Program) (inlined : IsInlined p) where
   few_regions = omega (arith, inlined.few, many, fewer_regions p.main p.regions inlined.table)
 
   pub in_order : (plan : Plan) → 1 ≤ plan.region → plan.region < 1 + length p.regions → InOrder p plan
-  in_order plan low high = by (find_region p.main 1 1 p.regions inlined.regions inlined.table (subst (λ (ns : List ℕ). Ascends 1 ns) (sym inlined.sites) (ascends-numbers_from 1 (length p.sites))) plan.region)
+  in_order plan low high =
+      by (find_region p.main 1 1 p.regions inlined.regions inlined.table (subst (λ (ns : List ℕ). Ascends 1 ns) (sym inlined.sites)
+      (ascends-numbers_from 1 (length p.sites))) plan.region)
     where
       by : Sought plan.region 1 1 p.main p.regions → InOrder p plan
       by (absent none out) = absurd (out low high)
       by (present entry from at region least most) =
-          let same : region_sites p plan.region ≡ map site_in (accesses region.statement) = ap (λ (xs : List Stmt). map site_in (flat_map accesses xs)) region.only ∙ ap (map site_in) (append-nil (accesses region.statement)) in
-          let long : length (region_sites p plan.region) ≡ length (accesses region.statement) = ap length same ∙ length-map (accesses region.statement) site_in in
+          let same : region_sites p plan.region ≡ map access_site (accesses region.statement) = ap (λ (xs : List Stmt). map access_site (flat_map accesses xs))
+          region.only ∙ ap (map access_site) (append-nil (accesses region.statement)) in
+          let long : length (region_sites p plan.region) ≡ length (accesses region.statement) = ap length same
+          ∙ length-map (accesses region.statement) access_site in
           let first : first_site p plan ≡ entry.first.0 = ap first_site_of at in
           record {
-            order = subst (λ (ns : List ℕ). Ascends (first_site p plan) ns) (sym same) (subst (λ (i : ℕ). Ascends i (map site_in (accesses region.statement))) (sym first) region.sites);
+            order = subst (λ (ns : List ℕ). Ascends (first_site p plan) ns) (sym same)
+                (subst (λ (i : ℕ). Ascends i (map access_site (accesses region.statement))) (sym first) region.sites);
             low = omega (arith, first, least);
             high = omega (arith, first, most, many, inlined.few, long);
           }

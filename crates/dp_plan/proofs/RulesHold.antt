@@ -3,9 +3,10 @@ use Rattle.std.proofs.Common.{◌≡◌, refl, ℕ, suc, ◌==◌, Bool, true, f
 use Rattle.std.proofs.lemmas.Bool.{cases_Bool, not-false}
 use Rattle.dp_tree.specs.declared.Program.{Program}
 use Rattle.dp_plan.specs.Each.{Each}
-use Rattle.dp_plan.specs.Written.{WrittenPlan, has, listed, region_sites, written_stage}
+use Rattle.dp_plan.specs.Written.{WrittenPlan, has, listed_sites, region_sites, written_stage}
 use Rattle.dp_plan.specs.Enclosing.{region_ifs, region_inner_whiles}
-use Rattle.dp_plan.specs.Rules.{assumed_site, begins_sequential, comes_late, condition, condition_unless, is_late_unassumed, is_no_if_or_again, least, least_site_in, lesser, occurs_again, second_neighbour, site_of_condition}
+use Rattle.dp_plan.specs.Rules.{assumed_site, begins_sequential, comes_late, condition, condition_unless, is_late_unassumed, is_no_if_or_again, least}
+use Rattle.dp_plan.specs.Rules.{least_site_in, lesser, occurs_again, second_neighbour, site_of_condition}
 use Rattle.dp_plan.specs.Valid.{BrokenRule, broken_from, first_broken, is_valid, rules}
 
 no_rule : (o : Option BrokenRule) → is_none o ≡ true → o ≡ None
@@ -52,14 +53,16 @@ module _ (p : Program) (w : WrittenPlan) (valid : first_broken p w ≡ None) whe
   pub holds : Each (λ o. o ≡ None) (rules p w)
   holds = unbroken 1 (rules p w) valid
 
-  pub all_listed : Each (λ site. has site (listed w) ≡ true) (region_sites p w.region)
-  all_listed = each_not (λ site. has site (listed w)) (region_sites p w.region) (none_kept (λ site. not (has site (listed w))) (region_sites p w.region) (none_least _ holds.0))
+  pub all_listed : Each (λ site. has site (listed_sites w) ≡ true) (region_sites p w.region)
+  all_listed = each_not (λ site. has site (listed_sites w)) (region_sites p w.region) (none_kept (λ site. not (has site (listed_sites w)))
+      (region_sites p w.region) (none_least _ holds.0))
 
-  pub none_again : Each (λ site. occurs_again (listed w) site ≡ false) (listed w)
-  none_again = none_kept (occurs_again (listed w)) (listed w) (none_least _ holds.1.0)
+  pub none_again : Each (λ site. occurs_again (listed_sites w) site ≡ false) (listed_sites w)
+  none_again = none_kept (occurs_again (listed_sites w)) (listed_sites w) (none_least _ holds.1.0)
 
-  pub none_foreign : Each (λ site. has site (region_sites p w.region) ≡ true) (listed w)
-  none_foreign = each_not (λ site. has site (region_sites p w.region)) (listed w) (none_kept (λ site. not (has site (region_sites p w.region))) (listed w) (none_least _ holds.1.1.0))
+  pub none_foreign : Each (λ site. has site (region_sites p w.region) ≡ true) (listed_sites w)
+  none_foreign = each_not (λ site. has site (region_sites p w.region)) (listed_sites w) (none_kept (λ site. not (has site (region_sites p w.region)))
+      (listed_sites w) (none_least _ holds.1.1.0))
 
   pub condition_first : (written_stage w (condition p w) == 1) ≡ true
   condition_first = met p w _ holds.1.1.1.0
@@ -74,7 +77,8 @@ module _ (p : Program) (w : WrittenPlan) (valid : first_broken p w ≡ None) whe
   whiles_in_time = none_kept (comes_late w) (region_inner_whiles p w.region) (none_mapped site_of_condition _ (none_least _ holds.1.1.1.1.1.1.0))
 
   pub ifs_in_time : Each (λ e. is_late_unassumed w e ≡ false) (region_ifs p w.region)
-  ifs_in_time = none_kept (is_late_unassumed w) (region_ifs p w.region) (none_mapped site_of_condition (filter (is_late_unassumed w) (region_ifs p w.region)) (none_least _ holds.1.1.1.1.1.1.1.0))
+  ifs_in_time = none_kept (is_late_unassumed w) (region_ifs p w.region) (none_mapped site_of_condition (filter (is_late_unassumed w) (region_ifs p w.region))
+      (none_least _ holds.1.1.1.1.1.1.1.0))
 
   pub rightly_assumed : Each (λ site. is_no_if_or_again p w site ≡ false) (map assumed_site w.assume)
   rightly_assumed = none_kept (is_no_if_or_again p w) (map assumed_site w.assume) (none_least _ holds.1.1.1.1.1.1.1.1.0)

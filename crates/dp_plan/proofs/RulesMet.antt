@@ -2,16 +2,18 @@
 use Rattle.std.proofs.Common.{◌≡◌, refl, ap, ◌∙◌, ℕ, suc, Bool, true, false, not, ◌==◌, List, [], ◌∷◌, map, filter, Option, None}
 use Rattle.dp_tree.specs.declared.Program.{Program}
 use Rattle.dp_plan.specs.Each.{Each}
-use Rattle.dp_plan.specs.Written.{WrittenPlan, has, listed, region_sites, written_stage}
+use Rattle.dp_plan.specs.Written.{WrittenPlan, has, listed_sites, region_sites, written_stage}
 use Rattle.dp_plan.specs.Enclosing.{Enclosing, region_ifs, region_inner_whiles}
-use Rattle.dp_plan.specs.Rules.{assumed_site, begins_sequential, comes_late, condition, condition_later, condition_unless, first_replicated, foreign, is_late_unassumed, is_no_if_or_again, late_if, late_while, least, least_site_in, listed_twice, neighbours_replicated, not_listed, occurs_again, second_neighbour, site_of_condition, wrongly_assumed}
+use Rattle.dp_plan.specs.Rules.{assumed_site, begins_sequential, comes_late, condition, condition_later, condition_unless, first_replicated, foreign}
+use Rattle.dp_plan.specs.Rules.{is_late_unassumed, is_no_if_or_again, late_if, late_while, least, least_site_in, listed_twice, neighbours_replicated}
+use Rattle.dp_plan.specs.Rules.{not_listed, occurs_again, second_neighbour, site_of_condition, wrongly_assumed}
 use Rattle.dp_plan.specs.Valid.{broken_from, first_broken, rules}
 
 -- what each rule asks
 pub record Meets (p : Program) (w : WrittenPlan) : Type 0 where
-  pub all : Each (λ site. has site (listed w) ≡ true) (region_sites p w.region)
-  pub once : Each (λ site. occurs_again (listed w) site ≡ false) (listed w)
-  pub own : Each (λ site. has site (region_sites p w.region) ≡ true) (listed w)
+  pub all : Each (λ site. has site (listed_sites w) ≡ true) (region_sites p w.region)
+  pub once : Each (λ site. occurs_again (listed_sites w) site ≡ false) (listed_sites w)
+  pub own : Each (λ site. has site (region_sites p w.region) ≡ true) (listed_sites w)
   pub first : (written_stage w (condition p w) == 1) ≡ true
   pub sequential : begins_sequential w.stages ≡ true
   pub apart : second_neighbour w.stages ≡ None
@@ -40,9 +42,11 @@ none_broken rule (o ∷ rest) each = ap (λ (q : Option ℕ). broken_from rule (
 module _ (p : Program) (w : WrittenPlan) (met : Meets p w) where
   lists : (not_listed p w ≡ None) × (listed_twice w ≡ None) × (foreign p w ≡ None)
   lists = (
-    none_least (λ site. not (has site (listed w))) (region_sites p w.region) (each_off (λ site. has site (listed w)) (region_sites p w.region) met.all),
-    none_least (occurs_again (listed w)) (listed w) met.once,
-    none_least (λ site. not (has site (region_sites p w.region))) (listed w) (each_off (λ site. has site (region_sites p w.region)) (listed w) met.own),
+    none_least (λ site. not (has site (listed_sites w))) (region_sites p w.region)
+        (each_off (λ site. has site (listed_sites w)) (region_sites p w.region) met.all),
+    none_least (occurs_again (listed_sites w)) (listed_sites w) met.once,
+    none_least (λ site. not (has site (region_sites p w.region))) (listed_sites w) (each_off (λ site. has site (region_sites p w.region))
+        (listed_sites w) met.own),
   )
 
   stages : (condition_later p w ≡ None) × (first_replicated p w ≡ None) × (neighbours_replicated w ≡ None)

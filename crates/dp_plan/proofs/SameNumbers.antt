@@ -1,5 +1,6 @@
 -- Lists that ascend strictly are the same where they have the same numbers, and each number stands there once.
-use Rattle.std.proofs.Common.{◌≡◌, refl, sym, ap, subst, ◌∙◌, ℕ, ◌+◌, ◌<◌, ◌≤◌, ◌==◌, Bool, true, false, cond, List, [], ◌∷◌, ◌++◌, count_by, inl, inr, arith, eq-eqb, eqb-true}
+use Rattle.std.proofs.Common.{◌≡◌, refl, sym, ap, subst, ◌∙◌, ℕ, ◌+◌, ◌<◌, ◌≤◌, ◌==◌, Bool, true, false, cond, List, [], ◌∷◌, ◌++◌, count_by, inl, inr, arith}
+use Rattle.std.proofs.Common.{eq-eqb, eqb-true}
 use Rattle.std.proofs.lemmas.Bool.{cases_Bool, or_right}
 use Rattle.std.proofs.lemmas.List.Sums.{sum_by-cons, sum_by-append}
 use Rattle.dp_plan.specs.Each.{AscendAbove}
@@ -27,7 +28,8 @@ tails x xs ys up f n e =
     let lt : x < n = has_each (λ m. x < m) xs n (above_each x xs up) e in
     past x n ys lt (f n (or_right (x == n) (has n xs) e))
 
-pub same_numbers : (low : ℕ) (xs ys : List ℕ) → AscendAbove low xs → AscendAbove low ys → ((n : ℕ) → has n xs ≡ true → has n ys ≡ true) → ((n : ℕ) → has n ys ≡ true → has n xs ≡ true) → xs ≡ ys
+pub same_numbers : (low : ℕ) (xs ys : List ℕ) → AscendAbove low xs → AscendAbove low ys → ((n : ℕ) → has n xs ≡ true → has n ys ≡ true) →
+    ((n : ℕ) → has n ys ≡ true → has n xs ≡ true) → xs ≡ ys
 same_numbers low [] [] up up_too f g = refl
 same_numbers low [] (y ∷ ys) up up_too f g = let clash : false ≡ true = g y (has_head y ys) in absurd (cc clash)
 same_numbers low (x ∷ xs) [] up up_too f g = let clash : false ≡ true = f x (has_head x xs) in absurd (cc clash)
@@ -54,7 +56,8 @@ pub count_some : (n : ℕ) (ns : List ℕ) → has n ns ≡ true → 1 ≤ count
 count_some n [] e = absurd (cc e)
 count_some n (m ∷ ms) e = elim (cases_Bool (m == n)) [
   | inl t ↦ let one : count n (m ∷ ms) ≡ 1 + count n ms = count_next n m ms ∙ ap (λ (b : Bool). cond b 1 0 + count n ms) t in omega (arith, one)
-  | inr t ↦ let none : count n (m ∷ ms) ≡ 0 + count n ms = count_next n m ms ∙ ap (λ (b : Bool). cond b 1 0 + count n ms) t in omega (arith, none, count_some n ms (past_other m n ms t e))
+  | inr t ↦ let none : count n (m ∷ ms) ≡ 0 + count n ms = count_next n m ms ∙ ap (λ (b : Bool). cond b 1 0 + count n ms) t in
+      omega (arith, none, count_some n ms (past_other m n ms t e))
 ]
 
 pub count_none : (n : ℕ) (ns : List ℕ) → has n ns ≡ false → count n ns ≡ 0
@@ -69,8 +72,10 @@ count_none n (m ∷ ms) e = elim (cases_Bool (m == n)) [
 pub ascending_once : (low n : ℕ) (ns : List ℕ) → AscendAbove low ns → count n ns ≤ 1
 ascending_once low n [] up = omega arith
 ascending_once low n (m ∷ ms) up = elim (cases_Bool (m == n)) [
-  | inl t ↦ let one : count n (m ∷ ms) ≡ 1 + count n ms = count_next n m ms ∙ ap (λ (b : Bool). cond b 1 0 + count n ms) t in omega (arith, one, count_none n ms (lower t))
-  | inr t ↦ let none : count n (m ∷ ms) ≡ 0 + count n ms = count_next n m ms ∙ ap (λ (b : Bool). cond b 1 0 + count n ms) t in omega (arith, none, ascending_once m n ms up.2)
+  | inl t ↦ let one : count n (m ∷ ms) ≡ 1 + count n ms = count_next n m ms ∙ ap (λ (b : Bool). cond b 1 0 + count n ms) t in
+      omega (arith, one, count_none n ms (lower t))
+  | inr t ↦ let none : count n (m ∷ ms) ≡ 0 + count n ms = count_next n m ms ∙ ap (λ (b : Bool). cond b 1 0 + count n ms) t in
+      omega (arith, none, ascending_once m n ms up.2)
 ]
   where
     lower : (m == n) ≡ true → has n ms ≡ false

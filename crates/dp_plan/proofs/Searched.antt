@@ -12,4 +12,8 @@ pub absent : (xs : List ℕ) (n i : ℕ) → IsBinarySearchResult (λ y. nat_cmp
 absent xs n i found up =
     let s = searched xs n (Err i) found (λ i j le lt. up i j 0 le lt) in
     list_any_none (λ k. k == n) xs (All-from_get_or (λ k. (k == n) ≡ false) xs 0 (λ k lt.
-    ne_eqb (get_or xs k 0) n (λ same. elim (cases_lt k i) [ inl before ↦ omega (arith, same, s.1 k before) | inr behind ↦ omega (arith, same, s.2 k behind lt) ])))
+    ne_eqb (get_or xs k 0) n (λ same. elim (cases_lt k i) [
+      | inl before ↦ omega (arith, same, s.1 k before)
+      | inr behind ↦
+          omega (arith, same, s.2 k behind lt)
+    ])))

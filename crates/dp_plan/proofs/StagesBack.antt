@@ -1,5 +1,6 @@
 -- The stages of a plan are those of its lines.
-use Rattle.std.proofs.Common.{◌≡◌, refl, sym, ap, subst, ◌∙◌, ℕ, suc, ◌+◌, ◌-◌, ◌==◌, if◌then◌else◌, true, ◌||◌, nat_le, List, [], ◌∷◌, map, filter, length, drop, slice_index, inl, inr, arith, le-leb, eqb-true, drop-cons}
+use Rattle.std.proofs.Common.{◌≡◌, refl, sym, ap, subst, ◌∙◌, ℕ, suc, ◌+◌, ◌-◌, ◌==◌, if◌then◌else◌, true, ◌||◌, nat_le, List, [], ◌∷◌, map, filter, length}
+use Rattle.std.proofs.Common.{drop, slice_index, inl, inr, arith, le-leb, eqb-true, drop-cons}
 use Rattle.std.specs.List.{flat_map}
 use Rattle.std.proofs.lemmas.Bool.{cases_Bool}
 use Rattle.std.proofs.lemmas.List.{drop_all}
@@ -34,7 +35,8 @@ module _ (p : Program) (plan : Plan) where
   abbrev sites : List ℕ
   sites = region_sites p plan.region
 
-  pub table_back : Ascends (first_site p plan) (region_sites p plan.region) → length plan.stage_of ≡ length (region_sites p plan.region) → map (stage_of p plan) (region_sites p plan.region) ≡ plan.stage_of
+  pub table_back : Ascends (first_site p plan) (region_sites p plan.region) → length plan.stage_of ≡ length (region_sites p plan.region) →
+      map (stage_of p plan) (region_sites p plan.region) ≡ plan.stage_of
   table_back up long =
       let e : first_site p plan ≡ first_site p plan + 0 = omega arith in
       looked_up (first_site p plan) plan.stage_of 0 sites (subst (λ (n : ℕ). Ascends n sites) e up) (omega (arith, long))
@@ -48,7 +50,8 @@ module _ (p : Program) (plan : Plan) where
   length-lines_from k (kind ∷ rest) = ap suc (length-lines_from (suc k) rest)
 
   -- a listed site is listed in the line of its stage
-  pub stage_back : (k : ℕ) (kinds : List StageKind) (site : ℕ) → has site (flat_map sites_in (lines_from p plan k kinds)) ≡ true → stage_from k (lines_from p plan k kinds) site ≡ stage_of p plan site
+  pub stage_back : (k : ℕ) (kinds : List StageKind) (site : ℕ) → has site (flat_map sites_in (lines_from p plan k kinds)) ≡ true →
+      stage_from k (lines_from p plan k kinds) site ≡ stage_of p plan site
   stage_back k [] site e = absurd (cc e)
   stage_back k (kind ∷ rest) site e = elim (cases_Bool (has site here)) [
     | inl t ↦ rw t (sym (eqb-true (stage_of p plan site) k (has-filter (λ n. stage_of p plan n == k) sites site t).1))
@@ -63,10 +66,12 @@ module _ (p : Program) (plan : Plan) where
 
   -- the lines fit, where each stage has a site
   pub stages_fit : (k : ℕ) (kinds : List StageKind) → AscendAbove 0 (region_sites p plan.region)
-      → Each (λ stage. has stage (map (stage_of p plan) (region_sites p plan.region)) ≡ true) (numbers_from k (length kinds)) → Each StageFits (lines_from p plan k kinds)
+      → Each (λ stage. has stage (map (stage_of p plan) (region_sites p plan.region)) ≡ true) (numbers_from k (length kinds)) →
+      Each StageFits (lines_from p plan k kinds)
   stages_fit k [] up filled = tt
   stages_fit k (kind ∷ rest) up filled =
       let next : k + 1 ≡ suc k = omega arith in (
         (kept_some (stage_of p plan) k sites filled.0, above-filter (λ n. stage_of p plan n == k) 0 sites up),
-        stages_fit (suc k) rest up (subst (λ (i : ℕ). Each (λ stage. has stage (map (stage_of p plan) sites) ≡ true) (numbers_from i (length rest))) next filled.1),
+        stages_fit (suc k) rest up
+            (subst (λ (i : ℕ). Each (λ stage. has stage (map (stage_of p plan) sites) ≡ true) (numbers_from i (length rest))) next filled.1),
       )

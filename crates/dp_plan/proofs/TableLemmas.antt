@@ -1,5 +1,6 @@
 -- A table that is made place by place, and what it says of a site.
-use Rattle.std.proofs.Common.{◌≡◌, ℕ, zero, suc, ◌+◌, ◌-◌, ◌<◌, ◌≤◌, ◌==◌, nat_lt, nat_le, Bool, true, false, ◌&&◌, List, [], ◌∷◌, ◌++◌, map, length, slice_get, slice_index, refl, sym, ap, ◌∙◌, inl, inr, eqb-true, ltb-true, ltb-false, leb-true, arith}
+use Rattle.std.proofs.Common.{◌≡◌, ℕ, zero, suc, ◌+◌, ◌-◌, ◌<◌, ◌≤◌, ◌==◌, nat_lt, nat_le, Bool, true, false, ◌&&◌, List, [], ◌∷◌, ◌++◌, map, length, slice_get}
+use Rattle.std.proofs.Common.{slice_index, refl, sym, ap, ◌∙◌, inl, inr, eqb-true, ltb-true, ltb-false, leb-true, arith}
 use Rattle.std.proofs.lemmas.Bool.{and_parts, cases_Bool}
 use Rattle.std.specs.List.{list_any, list_all}
 use Rattle.std.proofs.lemmas.List.{append_assoc}
@@ -52,7 +53,8 @@ without_stage stage test site none (x ∷ xs) staged =
     ]
 
 -- the site has no stage, and none is checked without one
-unstaged : (p : Program) (plan : Plan) → list_all (is_staged p plan) (region_accesses p plan) ≡ true → (site : ℕ) → stage_of p plan site ≡ 0 → is_checked p plan site ≡ false
+unstaged : (p : Program) (plan : Plan) → list_all (is_staged p plan) (region_accesses p plan) ≡ true → (site : ℕ) → stage_of p plan site ≡ 0 →
+    is_checked p plan site ≡ false
 unstaged p plan staged site none =
     without_stage (stage_of p plan) (λ (u : Access). list_any (may_differ p plan (stage_of p plan site) site) u.loads) site none (region_accesses p plan) staged
 
@@ -68,7 +70,8 @@ table_right p plan staged site =
       | inl e ↦ let low : first_site p plan ≤ site = leb-true (first_site p plan) site e in
           let back : first_site p plan + (site - first_site p plan) ≡ site = omega (arith, low) in
           rw e (elim (cases_Bool (nat_lt (site - first_site p plan) (length plan.stage_of))) [
-            | inl t ↦ entry (is_checked p plan) (first_site p plan) (length plan.stage_of) (site - first_site p plan) (ltb-true _ _ t) ∙ ap (is_checked p plan) back
+            | inl t ↦ entry (is_checked p plan) (first_site p plan) (length plan.stage_of) (site - first_site p plan) (ltb-true _ _ t)
+                ∙ ap (is_checked p plan) back
             | inr t ↦ let high : length plan.stage_of ≤ site - first_site p plan = ltb-false (site - first_site p plan) (length plan.stage_of) t in
                 no_entry (is_checked p plan) (first_site p plan) (length plan.stage_of) (site - first_site p plan) high
                 ∙ sym (unstaged p plan staged site (rw e (behind plan.stage_of (site - first_site p plan) high)))

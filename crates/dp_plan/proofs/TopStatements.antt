@@ -1,5 +1,6 @@
 -- The statements at the top of `main`: their sites, which of them are regions, and the entries of these.
-use Rattle.std.proofs.Common.{◌≡◌, refl, sym, ap, subst, ◌∙◌, ℕ, ◌+◌, ◌≤◌, ◌==◌, ◌&&◌, Bool, true, false, List, [], ◌∷◌, ◌++◌, map, length, length-append, arith}
+use Rattle.std.proofs.Common.{◌≡◌, refl, sym, ap, subst, ◌∙◌, ℕ, ◌+◌, ◌≤◌, ◌==◌, ◌&&◌, Bool, true, false, List, [], ◌∷◌, ◌++◌, map, length, length-append}
+use Rattle.std.proofs.Common.{arith}
 use Rattle.std.proofs.lemmas.Bool.{and_parts}
 use Rattle.std.proofs.lemmas.List.{map-append}
 use Rattle.dp_tree.specs.declared.RegionInfo.{RegionInfo}
@@ -11,29 +12,33 @@ use Rattle.dp_tree.specs.declared.Stmt.TheOpen.{Assign, Break, Call, If, Print, 
 use Rattle.dp_tree.specs.declared.Stmt.TheVariants as tree
 use Rattle.dp_tree.specs.declared.Stmt.TheViews.{rolls-Assign, rolls-Break, rolls-Call, rolls-If, rolls-Print, rolls-Region, rolls-Store, rolls-While}
 use Rattle.dp_tree.specs.Iteration.{is_region}
-use Rattle.dp_tree.specs.Numbering.{has_numbers, is_marked, is_inner_in, is_plain, listed_first, next_region, number_at, regions_listed, site_numbers, site_numbers_all, top_fits}
+use Rattle.dp_tree.specs.Numbering.{has_numbers, is_marked, is_inner_in, is_plain, listed_first, next_region, number_at, regions_listed, site_numbers}
+use Rattle.dp_tree.specs.Numbering.{site_numbers_all, top_fits}
 use Rattle.dp_tree.proofs.Asked.{asked_both}
 use Rattle.dp_plan.specs.Access.{Access, access_at, accesses, is_region_at}
-use Rattle.dp_plan.specs.Written.{site_in}
+use Rattle.dp_plan.specs.Written.{access_site}
 use Rattle.dp_plan.proofs.LoadLemmas.{opened}
 
-number_is : (x : Stmt) → number_at x ≡ map site_in (access_at x)
+number_is : (x : Stmt) → number_at x ≡ map access_site (access_at x)
 number_is (tree.Call f line args) = refl
 number_is _ = refl
 
 -- a statement's numbers are its sites
-pub sites_are : (x : Stmt) → site_numbers x ≡ map site_in (accesses x)
-sites_are x = asked_both (λ (ns : List ℕ) (xs : List Access). ns ≡ map site_in xs) refl
-    (λ a b xs ys p q. ap (λ ns. ns ++ b) p ∙ ap (λ ns. map site_in xs ++ ns) q ∙ sym (map-append site_in xs ys)) number_at access_at number_is x
+pub sites_are : (x : Stmt) → site_numbers x ≡ map access_site (accesses x)
+sites_are x = asked_both (λ (ns : List ℕ) (xs : List Access). ns ≡ map access_site xs) refl
+    (λ a b xs ys p q. ap (λ ns. ns ++ b) p ∙ ap (λ ns. map access_site xs ++ ns) q ∙ sym (map-append access_site xs ys)) number_at access_at number_is x
 
 -- a statement at the top: a region, or none
 pub data Top (x : Stmt) : Type 0 where
-  marked : (q : ℕ) (site : SiteId) (cond : Expr) (body : List Stmt) → out-Stmt x ≡ Region q site cond body → x ≡ tree.Region q site cond body → is_marked x ≡ true → ((k : ℕ) → next_region k x ≡ k + 1) →
+  marked : (q : ℕ) (site : SiteId) (cond : Expr) (body : List Stmt) → out-Stmt x ≡ Region q site cond body → x ≡ tree.Region q site cond body →
+      is_marked x ≡ true → ((k : ℕ) → next_region k x ≡ k + 1) →
       ((k : ℕ) → top_fits k x ≡ ((q == k) && is_inner_in (hidden-the_row-Stmt-0 body))) → Top x
   unmarked : ((r : ℕ) → is_region_at r x ≡ false) → is_marked x ≡ false → ((k : ℕ) → next_region k x ≡ k) → ((k : ℕ) → top_fits k x ≡ is_plain x) → Top x
 
-other_top : (h : Stmt-F Stmt) (y : Stmt) → roll-Stmt h ≡ y → ((r : ℕ) → is_region r h ≡ false) → is_marked y ≡ false → ((k : ℕ) → next_region k y ≡ k) → ((k : ℕ) → top_fits k y ≡ is_plain y) → Top (roll-Stmt h)
-other_top h y o none m n t = unmarked (λ r. ap (is_region r) (out-roll-Stmt h) ∙ none r) (ap is_marked o ∙ m) (λ k. ap (next_region k) o ∙ n k) (λ k. ap (top_fits k) o ∙ t k ∙ ap is_plain (sym o))
+other_top : (h : Stmt-F Stmt) (y : Stmt) → roll-Stmt h ≡ y → ((r : ℕ) → is_region r h ≡ false) → is_marked y ≡ false → ((k : ℕ) → next_region k y ≡ k) →
+    ((k : ℕ) → top_fits k y ≡ is_plain y) → Top (roll-Stmt h)
+other_top h y o none m n t = unmarked (λ r. ap (is_region r) (out-roll-Stmt h) ∙ none r) (ap is_marked o ∙ m) (λ k. ap (next_region k) o ∙ n k)
+    (λ k. ap (top_fits k) o ∙ t k ∙ ap is_plain (sym o))
 
 top_roll : (h : Stmt-F Stmt) → Top (roll-Stmt h)
 unfolding opened
@@ -63,7 +68,8 @@ fewer_regions (x ∷ rest) entries e = by (is_marked x) entries e (fewer_regions
     some entry [] h = absurd (cc)
     some entry (n ∷ ns) h = omega arith
 
-    by : (on : Bool) (entries : List RegionInfo) → listed_first on x (regions_listed rest) entries ≡ true → ((more : List RegionInfo) → regions_listed rest more ≡ true → length more ≤ length (site_numbers_all rest))
+    by : (on : Bool) (entries : List RegionInfo) → listed_first on x (regions_listed rest) entries ≡ true →
+        ((more : List RegionInfo) → regions_listed rest more ≡ true → length more ≤ length (site_numbers_all rest))
         → length entries ≤ length (site_numbers_all (x ∷ rest))
     by false entries h go = omega (arith, all, go entries h)
     by true [] h go = absurd (cc)

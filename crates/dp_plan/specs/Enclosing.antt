@@ -7,11 +7,11 @@ use Rattle.dp_tree.specs.declared.Program.{Program}
 pub use Rattle.dp_plan.specs.declared.Enclosing.{Enclosing}
 use Rattle.dp_tree.specs.Statements.{asked, asked_in}
 use Rattle.dp_plan.specs.Access.{accesses_in, region_in}
-use Rattle.dp_plan.specs.Written.{site_in}
+use Rattle.dp_plan.specs.Written.{access_site}
 
 -- the sites of several statements
 abbrev pub sites_of : {n : _} → Row_of-Stmt n → List ℕ
-sites_of rows = map site_in (accesses_in rows)
+sites_of rows = map access_site (accesses_in rows)
 
 -- the statement, where it is an `if`
 abbrev pub if_at : Stmt → List Enclosing

@@ -38,12 +38,12 @@ abbrev pub HasVersion : Bool → Plan → Type 0
 HasVersion proved plan = plan.proved ≡ proved
 
 -- the version of plans that have one; without a plan it is the one with proved independence
-abbrev pub version_of : List Plan → Bool
-version_of [] = true
-version_of (plan ∷ rest) = plan.proved
+abbrev pub plans_version : List Plan → Bool
+plans_version [] = true
+plans_version (plan ∷ rest) = plan.proved
 
 -- there is a plan for each region, in order, and all have one version
 pub record ArePlans (p : Program) (plans : List Plan) : Type 0 where
   pub regions : map region_of plans ≡ numbers_from 1 (length p.regions)
   pub each : Each (IsPlan p) plans
-  pub version : Each (HasVersion (version_of plans)) plans
+  pub version : Each (HasVersion (plans_version plans)) plans

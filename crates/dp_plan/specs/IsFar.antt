@@ -1,5 +1,6 @@
 -- Whether two sites of a region are far from each other, read off the text.
-use Rattle.std.specs.Prelude.{ℕ, suc, ◌==◌, if◌then◌else◌, Bool, false, not, ◌&&◌, ◌||◌, List, [], ◌∷◌, ◌++◌, length, ℤ, pos, negsuc, ◌+ℤ◌, ◌-ℤ◌, Option, Some, None, ◌%◌, nat_lt, slice_get, count_by}
+use Rattle.std.specs.Prelude.{ℕ, suc, ◌==◌, if◌then◌else◌, Bool, false, not, ◌&&◌, ◌||◌, List, [], ◌∷◌, ◌++◌, length, ℤ, pos, negsuc, ◌+ℤ◌, ◌-ℤ◌, Option, Some}
+use Rattle.std.specs.Prelude.{None, ◌%◌, nat_lt, slice_get, count_by}
 use Rattle.std.specs.List.{list_all, list_any, flat_map}
 use Rattle.std.specs.Option.{option_or}
 use Rattle.std.specs.Ordering.{int_eq}
@@ -74,14 +75,14 @@ abbrev pub halves : ℕ → List Stmt → Option Halves
 halves v [] = None
 halves v (s ∷ rest) = halves_by s rest (stride_of v (out-Stmt s)) (halves v rest)
 
-abbrev pub scalar_in : Option VarInfo → Bool
-scalar_in None = false
-scalar_in (Some info) = not info.array
+abbrev pub is_scalar_entry : Option VarInfo → Bool
+is_scalar_entry None = false
+is_scalar_entry (Some info) = not info.array
 
 -- v is a scalar, no body local, and one site of the region alone stores it
 abbrev pub moves_alone : Program → ℕ → ℕ → Bool
 moves_alone p r v =
-    scalar_in (slice_get p.vars v) && (not (is_local r (slice_get p.vars v)) && (count_by (stores_var v) (flat_map accesses (region_in p r)) == 1))
+    is_scalar_entry (slice_get p.vars v) && (not (is_local r (slice_get p.vars v)) && (count_by (stores_var v) (flat_map accesses (region_in p r)) == 1))
 
 abbrev pub shifted : ℤ → Option ℤ → Option ℤ
 shifted k None = None
@@ -115,13 +116,13 @@ pub record Stored : Type 0 where
   pub array : ℕ
   pub place : ℤ
 
-abbrev pub stored_by : ℕ → Option ℤ → Option Stored
-stored_by array None = None
-stored_by array (Some n) = Some (record { array = array; place = n })
+abbrev pub stored_place : ℕ → Option ℤ → Option Stored
+stored_place array None = None
+stored_place array (Some n) = Some (record { array = array; place = n })
 
 abbrev pub stored_at : ℕ → ℤ → Option Touch → Option Stored
 stored_at v shift None = None
-stored_at v shift (Some t) = stored_by t.variable (place_of v shift t.index)
+stored_at v shift (Some t) = stored_place t.variable (place_of v shift t.index)
 
 -- what site d stores, among these sites
 abbrev pub store_of : ℕ → ℤ → ℕ → List SiteTouch → Option Stored

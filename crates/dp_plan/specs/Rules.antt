@@ -5,7 +5,7 @@ use Rattle.dp_tree.specs.declared.Assume.{Assume}
 use Rattle.dp_tree.specs.declared.Program.{Program}
 use Rattle.dp_plan.specs.declared.StageKind.{StageKind}
 use Rattle.dp_plan.specs.declared.StageKind.TheVariants.{Seq, Par}
-use Rattle.dp_plan.specs.Written.{WrittenStage, WrittenPlan, region_sites, listed, has, written_stage}
+use Rattle.dp_plan.specs.Written.{WrittenStage, WrittenPlan, region_sites, listed_sites, has, written_stage}
 use Rattle.dp_plan.specs.Enclosing.{Enclosing, region_ifs, region_inner_whiles}
 
 -- the lesser of a number and another, if there is one
@@ -43,15 +43,15 @@ is_replicated_kind Seq = false
 
 -- Rule 1: every site of the region is listed. It names the least one that isn't.
 abbrev pub not_listed : Program → WrittenPlan → Option ℕ
-not_listed p w = least (filter (λ site. not (has site (listed w))) (region_sites p w.region))
+not_listed p w = least (filter (λ site. not (has site (listed_sites w))) (region_sites p w.region))
 
 -- Rule 2: no site is listed twice, be it of the region or not. It names the least one that is.
 abbrev pub listed_twice : WrittenPlan → Option ℕ
-listed_twice w = least (filter (occurs_again (listed w)) (listed w))
+listed_twice w = least (filter (occurs_again (listed_sites w)) (listed_sites w))
 
 -- Rule 3: every listed site is of the region. It names the least one that isn't.
 abbrev pub foreign : Program → WrittenPlan → Option ℕ
-foreign p w = least (filter (λ site. not (has site (region_sites p w.region))) (listed w))
+foreign p w = least (filter (λ site. not (has site (region_sites p w.region))) (listed_sites w))
 
 -- Rule 4: the region's condition is in stage 1. It names the condition.
 abbrev pub condition_later : Program → WrittenPlan → Option ℕ

@@ -4,7 +4,8 @@ use Rattle.dp_tree.specs.declared.Program.{Program}
 use Rattle.dp_plan.specs.declared.Plan.{Plan}
 pub use Rattle.dp_plan.specs.declared.BrokenRule.{BrokenRule}
 use Rattle.dp_plan.specs.Written.{WrittenPlan, written_of}
-use Rattle.dp_plan.specs.Rules.{not_listed, listed_twice, foreign, condition_later, first_replicated, neighbours_replicated, late_while, late_if, wrongly_assumed}
+use Rattle.dp_plan.specs.Rules.{not_listed, listed_twice, foreign, condition_later, first_replicated, neighbours_replicated, late_while, late_if}
+use Rattle.dp_plan.specs.Rules.{wrongly_assumed}
 
 -- what the nine rules name, in their order
 abbrev pub rules : Program → WrittenPlan → List (Option ℕ)

@@ -12,20 +12,20 @@ use Rattle.dp_plan.specs.Access.{Access, accesses, region_in}
 use Rattle.dp_plan.specs.CheckedTable.{with_table}
 
 -- the access's site
-abbrev pub site_in : Access → ℕ
-site_in a = a.site
+abbrev pub access_site : Access → ℕ
+access_site a = a.site
 
 -- the sites of region r, in text order; the first is the region's condition
 abbrev pub region_sites : Program → ℕ → List ℕ
-region_sites p r = map site_in (flat_map accesses (region_in p r))
+region_sites p r = map access_site (flat_map accesses (region_in p r))
 
 -- the line's sites
 abbrev pub sites_in : WrittenStage → List ℕ
 sites_in line = line.sites
 
 -- the listed sites, as often as they stand
-abbrev pub listed : WrittenPlan → List ℕ
-listed w = flat_map sites_in w.stages
+abbrev pub listed_sites : WrittenPlan → List ℕ
+listed_sites w = flat_map sites_in w.stages
 
 -- the site is among these
 abbrev pub has : ℕ → List ℕ → Bool

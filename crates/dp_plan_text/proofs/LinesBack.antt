@@ -1,5 +1,6 @@
 -- The lines of a text are those of the plan that they stand for.
-use Rattle.std.proofs.Common.{◌≡◌, refl, sym, ap, subst, ◌∙◌, ℕ, suc, ◌+◌, ◌<◌, ◌≤◌, ◌==◌, if◌then◌else◌, Bool, true, false, ◌||◌, List, [], ◌∷◌, map, filter, length, inl, inr, arith, eq-eqb, eqb-true}
+use Rattle.std.proofs.Common.{◌≡◌, refl, sym, ap, subst, ◌∙◌, ℕ, suc, ◌+◌, ◌<◌, ◌≤◌, ◌==◌, if◌then◌else◌, Bool, true, false, ◌||◌, List, [], ◌∷◌, map, filter}
+use Rattle.std.proofs.Common.{length, inl, inr, arith, eq-eqb, eqb-true}
 use Rattle.std.specs.List.{flat_map}
 use Rattle.std.proofs.lemmas.Bool.{cases_Bool, or_left, or_right, or_from}
 use Rattle.std.proofs.lemmas.List.Folds.{list_any-append}
@@ -87,7 +88,8 @@ module _ (p : Program) (plan : Plan) (up : AscendAbove 0 (region_sites p plan.re
         at = eqb-true (stage_of p plan n) k both.1
 
     line_same : filter (λ m. stage_of p plan m == k) (region_sites p plan.region) ≡ line.sites
-    line_same = same_numbers 0 (filter (λ m. stage_of p plan m == k) sites) line.sites (above-filter (λ m. stage_of p plan m == k) 0 sites up) h.fit.0.1 kept_listed
+    line_same = same_numbers 0 (filter (λ m. stage_of p plan m == k) sites) line.sites (above-filter (λ m. stage_of p plan m == k) 0 sites up)
+        h.fit.0.1 kept_listed
         (λ n e. kept (λ m. stage_of p plan m == k) sites n (h.known n (in_line n e)) (eq-eqb (stage_of p plan n) k (line_stage n e)))
 
     later : Listed (suc k) rest
@@ -109,11 +111,14 @@ module _ (p : Program) (plan : Plan) (up : AscendAbove 0 (region_sites p plan.re
       ∙ ap (λ (l : List WrittenStage). line ∷ l) (lines_back (suc k) rest (later k line rest h))
 
   -- each of the stages has a site
-  pub stages_filled : (k : ℕ) (stages : List WrittenStage) → Listed k stages → Each (λ stage. has stage (map (stage_of p plan) (region_sites p plan.region)) ≡ true) (numbers_from k (length stages))
+  pub stages_filled : (k : ℕ) (stages : List WrittenStage) → Listed k stages →
+      Each (λ stage. has stage (map (stage_of p plan) (region_sites p plan.region)) ≡ true) (numbers_from k (length stages))
   stages_filled k [] h = tt
   stages_filled k (line ∷ rest) h =
       let first = first_listed line.sites h.fit.0.0 in let next : suc k ≡ k + 1 = omega arith in
-      let there : has (stage_of p plan first.0) (map (stage_of p plan) (region_sites p plan.region)) ≡ true = has-map (stage_of p plan) sites first.0 (h.known first.0 (in_line k line rest h first.0 first.1)) in (
+      let there : has (stage_of p plan first.0) (map (stage_of p plan) (region_sites p plan.region)) ≡ true = has-map (stage_of p plan) sites first.0
+      (h.known first.0 (in_line k line rest h first.0 first.1)) in (
         subst (λ (i : ℕ). has i (map (stage_of p plan) sites) ≡ true) (line_stage k line rest h first.0 first.1) there,
-        subst (λ (i : ℕ). Each (λ stage. has stage (map (stage_of p plan) sites) ≡ true) (numbers_from i (length rest))) next (stages_filled (suc k) rest (later k line rest h)),
+        subst (λ (i : ℕ). Each (λ stage. has stage (map (stage_of p plan) sites) ≡ true) (numbers_from i (length rest))) next
+            (stages_filled (suc k) rest (later k line rest h)),
       )

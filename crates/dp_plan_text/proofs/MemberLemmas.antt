@@ -1,5 +1,6 @@
 -- The least of numbers; lists with the same members have the same least number.
-use Rattle.std.proofs.Common.{◌≡◌, ◌⊎◌, inl, inr, refl, sym, subst, ◌∙◌, ap, arith, ℕ, ◌≤◌, ◌==◌, if◌then◌else◌, nat_lt, Bool, true, false, ◌&&◌, ◌||◌, List, [], ◌∷◌, filter, cond, Option, Some, None, ◌<◌}
+use Rattle.std.proofs.Common.{◌≡◌, ◌⊎◌, inl, inr, refl, sym, subst, ◌∙◌, ap, arith, ℕ, ◌≤◌, ◌==◌, if◌then◌else◌, nat_lt, Bool, true, false, ◌&&◌, ◌||◌, List}
+use Rattle.std.proofs.Common.{[], ◌∷◌, filter, cond, Option, Some, None, ◌<◌}
 use Rattle.std.specs.List.Sorted.{IsPermutation}
 use Rattle.std.proofs.lemmas.Bool.{cases_Bool, true≢false, eqb-true, or_cases, ltb-true, ltb-false}
 use Rattle.std.proofs.lemmas.List.Elements.{filter_agree}
@@ -92,7 +93,8 @@ pub again_moved : (n : ℕ) (xs ys : List ℕ) → IsPermutation xs ys → occur
 again_moved n xs ys moved = ap (nat_lt 1) (sym (sum_by-IsPermutation (λ k. cond (k == n) 1 0) xs ys moved))
 
 -- the same test on the same numbers in another order
-pub least_moved : (test other : ℕ → Bool) (xs ys : List ℕ) → ((n : ℕ) → test n ≡ other n) → IsPermutation xs ys → least (filter test xs) ≡ least (filter other ys)
+pub least_moved : (test other : ℕ → Bool) (xs ys : List ℕ) → ((n : ℕ) → test n ≡ other n) → IsPermutation xs ys →
+    least (filter test xs) ≡ least (filter other ys)
 least_moved test other xs ys agree moved =
     least_same (filter test xs) (filter test ys) (λ n. has_passing test n xs ∙ ap (λ b. test n && b) (has_moved n xs ys moved) ∙ sym (has_passing test n ys))
     ∙ ap least (filter_agree test other agree ys)
@@ -159,15 +161,18 @@ joins_both None (Some k) n = ap Some (lower_again_first k n)
 joins_both (Some m) None n = ap Some (lower_again_last m n)
 joins_both (Some m) (Some k) n = ap Some (lower_again k m n)
 
-either_more : (test other : ℕ → Bool) (x : ℕ) (xs : List ℕ) → lesser_of (least (filter test xs)) (least (filter other xs)) ≡ least (filter (λ n. test n || other n) xs)
+either_more : (test other : ℕ → Bool) (x : ℕ) (xs : List ℕ) → lesser_of (least (filter test xs)) (least (filter other xs)) ≡ least
+    (filter (λ n. test n || other n) xs)
     → (t u : Bool) → lesser_of (least (if t then x ∷ filter test xs else filter test xs)) (least (if u then x ∷ filter other xs else filter other xs))
     ≡ least (if t || u then x ∷ filter (λ n. test n || other n) xs else filter (λ n. test n || other n) xs)
 either_more test other x xs ih true true = joins_both (least (filter test xs)) (least (filter other xs)) x ∙ ap (lesser x) ih
 either_more test other x xs ih true false = joins_first (least (filter test xs)) (least (filter other xs)) x ∙ ap (lesser x) ih
-either_more test other x xs ih false true = sym (takes_one (least (filter test xs)) (least (filter other xs)) x) ∙ joins_first (least (filter test xs)) (least (filter other xs)) x ∙ ap (lesser x) ih
+either_more test other x xs ih false true =
+    sym (takes_one (least (filter test xs)) (least (filter other xs)) x) ∙ joins_first (least (filter test xs)) (least (filter other xs)) x ∙ ap (lesser x) ih
 either_more test other x xs ih false false = ih
 
 -- what either of two tests lets through
-pub least_either : (test other : ℕ → Bool) (xs : List ℕ) → lesser_of (least (filter test xs)) (least (filter other xs)) ≡ least (filter (λ n. test n || other n) xs)
+pub least_either : (test other : ℕ → Bool) (xs : List ℕ) → lesser_of (least (filter test xs)) (least (filter other xs)) ≡ least
+    (filter (λ n. test n || other n) xs)
 least_either test other [] = refl
 least_either test other (x ∷ xs) = either_more test other x xs (least_either test other xs) (test x) (other x)

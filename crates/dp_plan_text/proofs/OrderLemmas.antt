@@ -1,5 +1,6 @@
 -- Numbers in ascending order: which are among them, and the first that stands there again.
-use Rattle.std.proofs.Common.{◌≡◌, inl, inr, refl, sym, ◌∙◌, ap, arith, ℕ, suc, ◌+◌, ◌<◌, ◌≤◌, ◌==◌, if◌then◌else◌, nat_lt, Bool, true, false, List, [], ◌∷◌, filter, cond, length, drop, get_or, Option, Some, None}
+use Rattle.std.proofs.Common.{◌≡◌, inl, inr, refl, sym, ◌∙◌, ap, arith, ℕ, suc, ◌+◌, ◌<◌, ◌≤◌, ◌==◌, if◌then◌else◌, nat_lt, Bool, true, false, List, [], ◌∷◌}
+use Rattle.std.proofs.Common.{filter, cond, length, drop, get_or, Option, Some, None}
 use Rattle.std.specs.List.Sorted.{IsNonDecreasing}
 use Rattle.std.proofs.lemmas.Bool.{cases_Bool, and_parts, eqb-true, eqb-false, eq-eqb, ne_eqb, le-ltb, lt-ltb}
 use Rattle.std.proofs.lemmas.List.{get_or_default}
@@ -53,7 +54,8 @@ repeated_more x y rest up ih =
           let twice : occurs_again (x ∷ y ∷ rest) x ≡ true =
           lt-ltb 1 (count x (x ∷ y ∷ rest)) (omega (arith, count_same x (y ∷ rest), count_next x y rest ∙ ap (λ b. cond b 1 0 + count x rest) same)) in
           ap (λ b. least (if b then x ∷ later else later)) twice
-          ∙ least_first x later (λ n t. up.0 n (and_parts (occurs_again (x ∷ y ∷ rest) n) (has n (y ∷ rest)) (sym (has_passing (occurs_again (x ∷ y ∷ rest)) n (y ∷ rest)) ∙ t)).1)
+          ∙ least_first x later
+          (λ n t. up.0 n (and_parts (occurs_again (x ∷ y ∷ rest) n) (has n (y ∷ rest)) (sym (has_passing (occurs_again (x ∷ y ∷ rest)) n (y ∷ rest)) ∙ t)).1)
           ∙ ap Some (eqb-true x y e) ∙ sym (ap (λ b. if b then Some y else first_again (y ∷ rest)) e)
       | inr e ↦
           let below : x ≤ y = up.0 y (has_head y rest) in let apart = eqb-false x y e in
@@ -61,7 +63,8 @@ repeated_more x y rest up ih =
             | inl t ↦ elim (has_cases x y rest t) [ inl same ↦ absurd (apart (sym same)) | inr deeper ↦ absurd (apart (omega (arith, below, up.1.0 x deeper))) ]
             | inr f ↦ f
           ] in
-          let once : occurs_again (x ∷ y ∷ rest) x ≡ false = le-ltb 1 (count x (x ∷ y ∷ rest)) (omega (arith, count_same x (y ∷ rest), count_none x (y ∷ rest) gone)) in
+          let once : occurs_again (x ∷ y ∷ rest) x ≡ false = le-ltb 1 (count x (x ∷ y ∷ rest))
+          (omega (arith, count_same x (y ∷ rest), count_none x (y ∷ rest) gone)) in
           let agree : (n : ℕ) → has n (y ∷ rest) ≡ true → occurs_again (x ∷ y ∷ rest) n ≡ occurs_again (y ∷ rest) n =
           λ n t. ap (nat_lt 1) (count_other n x (y ∷ rest) (ne_eqb x n (λ same. clash (ap (λ m. has m (y ∷ rest)) same ∙ t) gone))) in
           ap (λ b. least (if b then x ∷ later else later)) once

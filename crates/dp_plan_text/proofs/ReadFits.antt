@@ -1,5 +1,6 @@
 -- The plan that a valid written plan stands for fits its region, and what a text is read as are such plans.
-use Rattle.std.proofs.Common.{◌≡◌, refl, sym, ap, subst, ◌∙◌, ℕ, zero, suc, ◌+◌, ◌≤◌, Bool, true, false, List, [], ◌∷◌, map, length, Option, Some, None, is_none, inl, inr, arith}
+use Rattle.std.proofs.Common.{◌≡◌, refl, sym, ap, subst, ◌∙◌, ℕ, zero, suc, ◌+◌, ◌≤◌, Bool, true, false, List, [], ◌∷◌, map, length, Option, Some, None}
+use Rattle.std.proofs.Common.{is_none, inl, inr, arith}
 use Rattle.std.proofs.lemmas.Bool.{cases_Bool, ltb-false}
 use Rattle.std.proofs.lemmas.List.{length-map}
 use Rattle.dp_tree.specs.declared.Program.{Program}
@@ -7,7 +8,7 @@ use Rattle.dp_tree.specs.Inlined.{IsInlined}
 use Rattle.dp_tree.specs.Numbering.{numbers_from}
 use Rattle.dp_plan.specs.declared.Plan.{Plan}
 use Rattle.dp_plan.specs.Stage.{first_site, stage_of}
-use Rattle.dp_plan.specs.Written.{has, kind_in, lines_from, listed, plan_of, region_sites, written_of, written_stage}
+use Rattle.dp_plan.specs.Written.{has, kind_in, lines_from, listed_sites, plan_of, region_sites, written_of, written_stage}
 use Rattle.dp_plan.specs.declared.WrittenPlan.{WrittenPlan}
 use Rattle.dp_plan.specs.declared.WrittenStage.{WrittenStage}
 use Rattle.dp_plan.specs.Rules.{occurs_again}
@@ -15,10 +16,10 @@ use Rattle.dp_plan.specs.Valid.{first_broken, first_fault, or_later}
 use Rattle.dp_plan.specs.declared.BrokenRule.{BrokenRule}
 use Rattle.dp_plan.specs.Each.{AscendAbove, Each}
 use Rattle.dp_plan.specs.PlanFits.{PlanFits}
-use Rattle.dp_plan_text.specs.PlanText.{region_number}
+use Rattle.dp_plan_text.specs.PlanText.{written_region}
 use Rattle.dp_plan_text.specs.Refused.{StandsFor}
 use Rattle.dp_plan.specs.GivenPlans.{ArePlans, HasVersion, IsPlan, region_of}
-use Rattle.dp_plan.specs.GivenPlans.{version_of}
+use Rattle.dp_plan.specs.GivenPlans.{plans_version}
 use Rattle.dp_plan.proofs.Ascent.{above-ascends}
 use Rattle.dp_plan.proofs.Found.{has_each}
 use Rattle.dp_plan_text.proofs.LinesBack.{Listed, lines_back, stages_filled}
@@ -45,13 +46,13 @@ module _ (p : Program) (v : Bool) (w : WrittenPlan) (holds : first_broken p w �
   staged : map (stage_of p (plan_of p v w)) (region_sites p w.region) ≡ map (written_stage w) (region_sites p w.region)
   staged = table_back p plan order.order (length-map sites (written_stage w))
 
-  known : (n : ℕ) → has n (listed w) ≡ true → has n (region_sites p w.region) ≡ true
-  known n e = has_each (λ site. has site (region_sites p w.region) ≡ true) (listed w) n (none_foreign p w holds) e
+  known : (n : ℕ) → has n (listed_sites w) ≡ true → has n (region_sites p w.region) ≡ true
+  known n e = has_each (λ site. has site (region_sites p w.region) ≡ true) (listed_sites w) n (none_foreign p w holds) e
 
-  once : (n : ℕ) → count n (listed w) ≤ 1
-  once n = elim (cases_Bool (has n (listed w))) [
-    | inl t ↦ ltb-false 1 (count n (listed w)) (has_each (λ site. occurs_again (listed w) site ≡ false) (listed w) n (none_again p w holds) t)
-    | inr t ↦ omega (arith, count_none n (listed w) t)
+  once : (n : ℕ) → count n (listed_sites w) ≤ 1
+  once n = elim (cases_Bool (has n (listed_sites w))) [
+    | inl t ↦ ltb-false 1 (count n (listed_sites w)) (has_each (λ site. occurs_again (listed_sites w) site ≡ false) (listed_sites w) n (none_again p w holds) t)
+    | inr t ↦ omega (arith, count_none n (listed_sites w) t)
   ]
 
   all : Listed p (plan_of p v w) up 1 w.stages
@@ -60,7 +61,7 @@ module _ (p : Program) (v : Bool) (w : WrittenPlan) (holds : first_broken p w �
     known = known;
     fit = fits.stages;
     staged = λ n e. has_each (λ m. stage_of p plan m ≡ written_stage w m) sites n (each_same (stage_of p plan) (written_stage w) sites staged) (known n e);
-    earlier = λ n e off. let on = has_each (λ site. has site (listed w) ≡ true) sites n (all_listed p w holds) e in absurd (cc (sym on ∙ off));
+    earlier = λ n e off. let on = has_each (λ site. has site (listed_sites w) ≡ true) sites n (all_listed p w holds) e in absurd (cc (sym on ∙ off));
   }
 
   lines : lines_from p (plan_of p v w) 1 (map kind_in w.stages) ≡ w.stages
@@ -78,14 +79,15 @@ module _ (p : Program) (v : Bool) (w : WrittenPlan) (holds : first_broken p w �
         some_stage = omega (arith, many, fits.some_stage);
         few_stages = omega (arith, many, fits.few_stages);
         filled = subst (λ (t : List ℕ). Each (λ stage. has stage t ≡ true) (numbers_from 1 (length (map kind_in w.stages)))) staged
-            (subst (λ (i : ℕ). Each (λ stage. has stage (map (stage_of p plan) sites) ≡ true) (numbers_from 1 i)) (sym many) (stages_filled p plan up 1 w.stages all));
+            (subst (λ (i : ℕ). Each (λ stage. has stage (map (stage_of p plan) sites) ≡ true) (numbers_from 1 i)) (sym many)
+            (stages_filled p plan up 1 w.stages all));
         staged = length-map sites (written_stage w);
         valid = ap is_none still;
         assume = valid.sorted_up p w holds up;
         table = refl;
       }
 
-numbers_same : (p : Program) (v : Bool) (ws : List WrittenPlan) → map region_of (map (plan_of p v) ws) ≡ map region_number ws
+numbers_same : (p : Program) (v : Bool) (ws : List WrittenPlan) → map region_of (map (plan_of p v) ws) ≡ map written_region ws
 numbers_same p v [] = refl
 numbers_same p v (w ∷ rest) = ap (λ (ns : List ℕ). w.region ∷ ns) (numbers_same p v rest)
 
@@ -93,7 +95,7 @@ all_have : (p : Program) (v : Bool) (ws : List WrittenPlan) → Each (HasVersion
 all_have p v [] = tt
 all_have p v (w ∷ rest) = (refl, all_have p v rest)
 
-one_version : (p : Program) (v : Bool) (ws : List WrittenPlan) → Each (HasVersion (version_of (map (plan_of p v) ws))) (map (plan_of p v) ws)
+one_version : (p : Program) (v : Bool) (ws : List WrittenPlan) → Each (HasVersion (plans_version (map (plan_of p v) ws))) (map (plan_of p v) ws)
 one_version p v [] = tt
 one_version p v (w ∷ rest) = all_have p v (w ∷ rest)
 
@@ -102,12 +104,13 @@ faultless None later e = (refl, e)
 faultless (Some broken) later e = absurd (cc e)
 
 module _ (p : Program) (v : Bool) (inlined : IsInlined p) where
-  each_is : (ws : List WrittenPlan) (k n : ℕ) → 1 ≤ k → k + n ≤ 1 + length p.regions → map region_number ws ≡ numbers_from k n → Each PlanFits ws → first_fault p ws ≡ None → Each (IsPlan p) (map (plan_of p v) ws)
+  each_is : (ws : List WrittenPlan) (k n : ℕ) → 1 ≤ k → k + n ≤ 1 + length p.regions → map written_region ws ≡ numbers_from k n → Each PlanFits ws →
+      first_fault p ws ≡ None → Each (IsPlan p) (map (plan_of p v) ws)
   each_is [] k n low high numbers fit holds = tt
   each_is (w ∷ rest) k zero low high numbers fit holds = absurd (cc numbers)
   each_is (w ∷ rest) k (suc n) low high numbers fit holds =
       let here : w.region ≡ k = cc numbers in
-      let later : map region_number rest ≡ numbers_from (k + 1) n = cc numbers in
+      let later : map written_region rest ≡ numbers_from (k + 1) n = cc numbers in
       let both = faultless (first_broken p w) (first_fault p rest) holds in (
         plan_is p v w both.0 fit.0 (in_order p inlined (plan_of p v w) (omega (arith, here, low)) (omega (arith, here, high))),
         each_is rest (k + 1) n (omega arith) (omega (arith, high)) later fit.1 both.1,

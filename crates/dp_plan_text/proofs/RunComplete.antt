@@ -1,5 +1,6 @@
 -- The lines of plans that fit are read to their end.
-use Rattle.std.proofs.Common.{◌≡◌, ℕ, zero, suc, ◌+◌, ◌<◌, ◌≤◌, ◌==◌, Bool, true, false, nat_lt, List, [], ◌∷◌, ◌++◌, map, length, Option, Some, refl, sym, ap, ◌∙◌, append_assoc, append-nil, length-append, rules, arith, tests}
+use Rattle.std.proofs.Common.{◌≡◌, ℕ, zero, suc, ◌+◌, ◌<◌, ◌≤◌, ◌==◌, Bool, true, false, nat_lt, List, [], ◌∷◌, ◌++◌, map, length, Option, Some, refl, sym, ap}
+use Rattle.std.proofs.Common.{◌∙◌, append_assoc, append-nil, length-append, rules, arith, tests}
 use Rattle.std.specs.List.{flat_map}
 use Rattle.dp_tree.specs.declared.Assume.{Assume}
 use Rattle.dp_tree.specs.Numbering.{numbers_from}
@@ -11,7 +12,7 @@ use Rattle.dp_plan.specs.declared.WrittenStage.{WrittenStage}
 use Rattle.dp_plan.specs.declared.WrittenPlan.{WrittenPlan}
 use Rattle.dp_plan.specs.Each.{Each}
 use Rattle.dp_plan.specs.PlanFits.{PlanFits}
-use Rattle.dp_plan_text.specs.PlanText.{region_number, region_lines, plan_lines}
+use Rattle.dp_plan_text.specs.PlanText.{written_region, region_lines, plan_lines}
 use Rattle.dp_plan_text.specs.steps.Reading.{begun, is_between, closed, next}
 use Rattle.dp_text.proofs.Runs.{run_by}
 use Rattle.std.proofs.lemmas.Bool.{or_right}
@@ -38,7 +39,8 @@ module _ (v : Bool) (n r words : ℕ) (plans : List WrittenPlan) (some : 0 < r) 
   stage_next done stage few = let t : nat_lt (length done) 8 ≡ true = search rules in rw (not_zero r some, t) refl
 
   stages_run : (done stages : List WrittenStage) (more : List Line) → length done + length stages ≤ 8
-      → run n (Some (inside v plans (part r words done []))) (map line.Stage stages ++ more) ≡ run n (Some (inside v plans (part r words (done ++ stages) []))) more
+      → run n (Some (inside v plans (part r words done []))) (map line.Stage stages ++ more) ≡ run n
+      (Some (inside v plans (part r words (done ++ stages) []))) more
   stages_run done [] more few = ap (λ d. run n (Some (inside v plans (part r words d []))) more) (sym (append-nil done))
   stages_run done (stage ∷ rest) more few =
       let long : length (done ++ stage ∷ []) ≡ length done + 1 = length-append done (stage ∷ []) in
@@ -52,7 +54,8 @@ module _ (v : Bool) (n r words : ℕ) (plans : List WrittenPlan) (some : 0 < r) 
   assume_next stages done a full = let t : nat_lt 0 (length stages) ≡ true = search rules in rw (not_zero r some, t) refl
 
   assumes_run : (stages : List WrittenStage) (done assumed : List Assume) (more : List Line) → 0 < length stages
-      → run n (Some (inside v plans (part r words stages done))) (map line.Assume assumed ++ more) ≡ run n (Some (inside v plans (part r words stages (done ++ assumed)))) more
+      → run n (Some (inside v plans (part r words stages done))) (map line.Assume assumed ++ more) ≡ run n
+      (Some (inside v plans (part r words stages (done ++ assumed)))) more
   assumes_run stages done [] more full = ap (λ d. run n (Some (inside v plans (part r words stages d))) more) (sym (append-nil done))
   assumes_run stages done (a ∷ rest) more full =
       ap (λ o. run n o (map line.Assume rest ++ more)) (assume_next stages done a full)
@@ -85,14 +88,15 @@ pub end_next : (n : ℕ) (s : Reader) → is_between s ≡ true → s.last.regio
 unfolding next
 end_next n s between same = let e : (s.last.region == n) ≡ true = search (rules, tests) in rw (between, e) refl
 
-pub plans_run : (ws : List WrittenPlan) (n k : ℕ) (s : Reader) → is_between s ≡ true → map region_number ws ≡ numbers_from (s.last.region + 1) k → s.last.region + k ≡ n → Each PlanFits ws
+pub plans_run : (ws : List WrittenPlan) (n k : ℕ) (s : Reader) → is_between s ≡ true → map written_region ws ≡ numbers_from (s.last.region + 1) k →
+    s.last.region + k ≡ n → Each PlanFits ws
     → run n (Some s) (flat_map region_lines ws ++ line.End ∷ []) ≡ Some (over s.proved (closed s ++ ws))
 plans_run [] n zero s between numbers count fit =
     end_next n s between (omega (arith, count)) ∙ ap (λ p. Some (over s.proved p)) (sym (append-nil (closed s)))
 plans_run (w ∷ ws) n (suc k) s between numbers count fit =
     let first : w.region ≡ s.last.region + 1 = cc numbers in
-    let others : map region_number ws ≡ numbers_from ((s.last.region + 1) + 1) k = cc numbers in
-    let later : map region_number ws ≡ numbers_from (w.region + 1) k = others ∙ ap (λ r. numbers_from (r + 1) k) (sym first) in
+    let others : map written_region ws ≡ numbers_from ((s.last.region + 1) + 1) k = cc numbers in
+    let later : map written_region ws ≡ numbers_from (w.region + 1) k = others ∙ ap (λ r. numbers_from (r + 1) k) (sym first) in
     let positive : 0 < w.region = omega (arith, first) in
     let full : 0 < length w.stages = omega (arith, fit.0.some_stage) in
     ap (run n (Some s)) (append_assoc (region_lines w) (flat_map region_lines ws) (line.End ∷ []))
@@ -106,7 +110,8 @@ pub head_next : (n : ℕ) (v : Bool) → next n begun (line.Head v) ≡ Some (in
 unfolding next
 head_next n v = refl
 
-pub lines_run : (n : ℕ) (v : Bool) (ws : List WrittenPlan) → map region_number ws ≡ numbers_from 1 n → Each PlanFits ws → run n (Some begun) (plan_lines v ws) ≡ Some (over v ws)
+pub lines_run : (n : ℕ) (v : Bool) (ws : List WrittenPlan) → map written_region ws ≡ numbers_from 1 n → Each PlanFits ws →
+    run n (Some begun) (plan_lines v ws) ≡ Some (over v ws)
 lines_run n v ws numbers fit =
     ap (λ o. run n o (flat_map region_lines ws ++ line.End ∷ [])) (head_next n v)
     ∙ plans_run ws n n (inside v [] (part 0 0 [] [])) refl numbers (omega arith) fit

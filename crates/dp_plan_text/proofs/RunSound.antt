@@ -1,5 +1,6 @@
 -- Lines that are read one after the other are the lines of plans that fit.
-use Rattle.std.proofs.Common.{◌≡◌, ℕ, zero, suc, ◌+◌, ◌<◌, ◌≤◌, ◌==◌, Bool, true, nat_lt, List, [], ◌∷◌, ◌++◌, map, length, Some, refl, sym, ap, subst, ◌∙◌, append_assoc, append-nil, length-append, rules, arith, tests}
+use Rattle.std.proofs.Common.{◌≡◌, ℕ, zero, suc, ◌+◌, ◌<◌, ◌≤◌, ◌==◌, Bool, true, nat_lt, List, [], ◌∷◌, ◌++◌, map, length, Some, refl, sym, ap, subst, ◌∙◌}
+use Rattle.std.proofs.Common.{append_assoc, append-nil, length-append, rules, arith, tests}
 use Rattle.std.specs.List.{flat_map}
 use Rattle.std.proofs.lemmas.List.{map-append, nil_from_length}
 use Rattle.std.proofs.lemmas.Grind.{flat_map-append}
@@ -14,7 +15,7 @@ use Rattle.dp_plan.specs.declared.WrittenStage.{WrittenStage}
 use Rattle.dp_plan.specs.declared.WrittenPlan.{WrittenPlan}
 use Rattle.dp_plan.specs.Each.{Each}
 use Rattle.dp_plan.specs.PlanFits.{StageFits, AssumeFits, PlanFits}
-use Rattle.dp_plan_text.specs.PlanText.{region_number, region_lines, plan_lines}
+use Rattle.dp_plan_text.specs.PlanText.{written_region, region_lines, plan_lines}
 use Rattle.dp_plan_text.specs.steps.Reading.{begun, is_between, closed, next, next_by}
 use Rattle.dp_plan_text.proofs.LineComplete.{LineFits}
 use Rattle.dp_plan_text.proofs.RunComplete.{part, inside, over, not_zero, closed_last}
@@ -32,9 +33,11 @@ pub record LastFits (w : WrittenPlan) : Type 0 where
 pub data Reads (n : ℕ) : Reader → List Line → Type 0 where
   at_start : Reads n begun []
   headed : (v : Bool) → Reads n (inside v [] (part 0 0 [] [])) (line.Head v ∷ [])
-  in_region : (v : Bool) (plans : List WrittenPlan) (w : WrittenPlan) → 0 < w.region → w.region ≤ n → map region_number (plans ++ w ∷ []) ≡ numbers_from 1 w.region
+  in_region : (v : Bool) (plans : List WrittenPlan) (w : WrittenPlan) → 0 < w.region → w.region ≤ n →
+      map written_region (plans ++ w ∷ []) ≡ numbers_from 1 w.region
       → Each PlanFits plans → LastFits w → Reads n (inside v plans w) (line.Head v ∷ flat_map region_lines (plans ++ w ∷ []))
-  at_end : (v : Bool) (plans : List WrittenPlan) → map region_number plans ≡ numbers_from 1 n → Each PlanFits plans → Reads n (over v plans) (plan_lines v plans)
+  at_end : (v : Bool) (plans : List WrittenPlan) → map written_region plans ≡ numbers_from 1 n → Each PlanFits plans →
+      Reads n (over v plans) (plan_lines v plans)
 
 -- ---- lists
 
@@ -53,7 +56,14 @@ with_region : (words : ℕ) (r : ℕ) → 16 ≤ words → words ≤ 4096 → La
 with_region words r low high = record { least_words = low; most_words = high; few_stages = omega arith; stages = tt; assume = tt; first_stages = λ _. refl }
 
 pub whole : (w : WrittenPlan) → LastFits w → 0 < length w.stages → PlanFits w
-whole w l full = record { least_words = l.least_words; most_words = l.most_words; some_stage = omega (arith, full); few_stages = l.few_stages; stages = l.stages; assume = l.assume }
+whole w l full = record {
+  least_words = l.least_words;
+  most_words = l.most_words;
+  some_stage = omega (arith, full);
+  few_stages = l.few_stages;
+  stages = l.stages;
+  assume = l.assume;
+}
 
 abbrev more_stage : WrittenPlan → WrittenStage → WrittenPlan
 more_stage w stage = part w.region w.words (w.stages ++ stage ∷ []) w.assume
@@ -64,26 +74,31 @@ more_assume w a = part w.region w.words w.stages (w.assume ++ a ∷ [])
 stage_lines : (w : WrittenPlan) (stage : WrittenStage) → w.assume ≡ [] → region_lines (more_stage w stage) ≡ region_lines w ++ line.Stage stage ∷ []
 stage_lines w stage none =
     rw none (ap (λ r. line.Region w.region w.words ∷ r)
-    (append-nil (map line.Stage (w.stages ++ stage ∷ [])) ∙ map-append line.Stage w.stages (stage ∷ []) ∙ ap (λ r. r ++ line.Stage stage ∷ []) (sym (append-nil (map line.Stage w.stages)))))
+    (append-nil (map line.Stage (w.stages ++ stage ∷ [])) ∙ map-append line.Stage w.stages (stage ∷ [])
+    ∙ ap (λ r. r ++ line.Stage stage ∷ []) (sym (append-nil (map line.Stage w.stages)))))
 
 assume_lines : (w : WrittenPlan) (a : Assume) → region_lines (more_assume w a) ≡ region_lines w ++ line.Assume a ∷ []
 assume_lines w a =
     ap (λ r. line.Region w.region w.words ∷ r)
-    (ap (λ r. map line.Stage w.stages ++ r) (map-append line.Assume w.assume (a ∷ [])) ∙ sym (append_assoc (map line.Stage w.stages) (map line.Assume w.assume) (line.Assume a ∷ [])))
+    (ap (λ r. map line.Stage w.stages ++ r) (map-append line.Assume w.assume (a ∷ []))
+    ∙ sym (append_assoc (map line.Stage w.stages) (map line.Assume w.assume) (line.Assume a ∷ [])))
 
 -- the lines where the last plan has one line more
 last_line : (plans : List WrittenPlan) (w v : WrittenPlan) (l : Line) → region_lines v ≡ region_lines w ++ l ∷ []
     → flat_map region_lines (plans ++ v ∷ []) ≡ flat_map region_lines (plans ++ w ∷ []) ++ l ∷ []
 last_line plans w v l e =
-    flat_map-last region_lines plans v ∙ ap (λ r. flat_map region_lines plans ++ r) e ∙ sym (append_assoc (flat_map region_lines plans) (region_lines w) (l ∷ []))
+    flat_map-last region_lines plans v ∙ ap (λ r. flat_map region_lines plans ++ r) e
+    ∙ sym (append_assoc (flat_map region_lines plans) (region_lines w) (l ∷ []))
     ∙ ap (λ r. r ++ l ∷ []) (sym (flat_map-last region_lines plans w))
 
-last_numbers : (plans : List WrittenPlan) (w v : WrittenPlan) → v.region ≡ w.region → map region_number (plans ++ w ∷ []) ≡ numbers_from 1 w.region → map region_number (plans ++ v ∷ []) ≡ numbers_from 1 v.region
+last_numbers : (plans : List WrittenPlan) (w v : WrittenPlan) → v.region ≡ w.region → map written_region (plans ++ w ∷ []) ≡ numbers_from 1 w.region →
+    map written_region (plans ++ v ∷ []) ≡ numbers_from 1 v.region
 last_numbers plans w v e h =
-    map-append region_number plans (v ∷ []) ∙ ap (λ r. map region_number plans ++ r ∷ []) e ∙ sym (map-append region_number plans (w ∷ [])) ∙ h ∙ ap (numbers_from 1) (sym e)
+    map-append written_region plans (v ∷ []) ∙ ap (λ r. map written_region plans ++ r ∷ []) e ∙ sym (map-append written_region plans (w ∷ [])) ∙ h
+    ∙ ap (numbers_from 1) (sym e)
 
 module _ (n : ℕ) (v : Bool) (plans : List WrittenPlan) (w : WrittenPlan) (some : 0 < w.region) (upto : w.region ≤ n)
-    (numbers : map region_number (plans ++ w ∷ []) ≡ numbers_from 1 w.region) (fit : Each PlanFits plans) (last : LastFits w) where
+    (numbers : map written_region (plans ++ w ∷ []) ≡ numbers_from 1 w.region) (fit : Each PlanFits plans) (last : LastFits w) where
   abbrev so_far : List Line
   so_far = line.Head v ∷ flat_map region_lines (plans ++ w ∷ [])
 
@@ -94,33 +109,39 @@ module _ (n : ℕ) (v : Bool) (plans : List WrittenPlan) (w : WrittenPlan) (some
   between : is_between (inside v plans w) ≡ true → 0 < length w.stages
   between h = let t : nat_lt 0 (length w.stages) ≡ true = rw (not_zero w.region some) at h in search rules
 
-  region_after : (r words : ℕ) (s : Reader) → LineFits (line.Region r words) → next n (inside v plans w) (line.Region r words) ≡ Some s → Reads n s (so_far ++ line.Region r words ∷ [])
+  region_after : (r words : ℕ) (s : Reader) → LineFits (line.Region r words) → next n (inside v plans w) (line.Region r words) ≡ Some s →
+      Reads n s (so_far ++ line.Region r words ∷ [])
   unfolding next
   region_after r words s fits h =
       let t = taken _ _ s h in let b = both _ _ t.0 in let c = both _ _ b.second in
       let below : w.region < n = let lt : nat_lt w.region n ≡ true = c.first in search rules in
       let is : r ≡ w.region + 1 = let e : (r == w.region + 1) ≡ true = c.second in search (rules, tests) in
       let full : 0 < length w.stages = between b.first in
-      let now : inside v (closed (inside v plans w)) (part r words [] []) ≡ inside v (plans ++ w ∷ []) (part r words [] []) = ap (λ p. inside v p (part r words [] [])) (closed_last v plans w some) in
+      let now : inside v (closed (inside v plans w)) (part r words [] []) ≡ inside v (plans ++ w ∷ []) (part r words [] []) = ap
+      (λ p. inside v p (part r words [] [])) (closed_last v plans w some) in
       let next_one : r ≡ 1 + w.region = omega (arith, is) in let last_one : suc w.region ≡ r = omega (arith, is) in
-      let count : map region_number ((plans ++ w ∷ []) ++ part r words [] [] ∷ []) ≡ numbers_from 1 r =
-      map-append region_number (plans ++ w ∷ []) (part r words [] [] ∷ []) ∙ ap (λ l. l ++ r ∷ []) numbers
+      let count : map written_region ((plans ++ w ∷ []) ++ part r words [] [] ∷ []) ≡ numbers_from 1 r =
+      map-append written_region (plans ++ w ∷ []) (part r words [] [] ∷ []) ∙ ap (λ l. l ++ r ∷ []) numbers
       ∙ ap (λ m. numbers_from 1 w.region ++ m ∷ []) next_one ∙ numbers-next w.region 1 ∙ ap (numbers_from 1) last_one in
       let lines : line.Head v ∷ flat_map region_lines ((plans ++ w ∷ []) ++ part r words [] [] ∷ []) ≡ so_far ++ line.Region r words ∷ [] =
       ap (λ l. line.Head v ∷ l) (flat_map-last region_lines (plans ++ w ∷ []) (part r words [] [])) in
-      let reads : Reads n (inside v (plans ++ w ∷ []) (part r words [] [])) (line.Head v ∷ flat_map region_lines ((plans ++ w ∷ []) ++ part r words [] [] ∷ [])) =
-      in_region v (plans ++ w ∷ []) (part r words [] []) (omega (arith, is)) (omega (arith, is, below)) count (each-append PlanFits plans w fit (whole w last full)) (with_region words r fits.1 fits.2) in
+      let reads : Reads n (inside v (plans ++ w ∷ []) (part r words [] []))
+      (line.Head v ∷ flat_map region_lines ((plans ++ w ∷ []) ++ part r words [] [] ∷ [])) =
+      in_region v (plans ++ w ∷ []) (part r words [] []) (omega (arith, is)) (omega (arith, is, below)) count
+      (each-append PlanFits plans w fit (whole w last full)) (with_region words r fits.1 fits.2) in
       subst (λ (q : Reader). Reads n q (so_far ++ line.Region r words ∷ [])) (sym now ∙ t.1)
       (subst (λ (ls : List Line). Reads n (inside v (plans ++ w ∷ []) (part r words [] [])) ls) lines reads)
 
-  stage_after : (stage : WrittenStage) (s : Reader) → StageFits stage → next n (inside v plans w) (line.Stage stage) ≡ Some s → Reads n s (so_far ++ line.Stage stage ∷ [])
+  stage_after : (stage : WrittenStage) (s : Reader) → StageFits stage → next n (inside v plans w) (line.Stage stage) ≡ Some s →
+      Reads n s (so_far ++ line.Stage stage ∷ [])
   unfolding next
   stage_after stage s fits h =
       let t = taken _ _ s h in let b = both _ _ t.0 in let c = both _ _ b.second in
       let few : length w.stages < 8 = let lt : nat_lt (length w.stages) 8 ≡ true = c.first in search rules in
       let none : w.assume ≡ [] = nil_from_length w.assume (let e : (length w.assume == 0) ≡ true = c.second in search (rules, tests)) in
       let more = more_stage w stage in
-      let lines : line.Head v ∷ flat_map region_lines (plans ++ more ∷ []) ≡ so_far ++ line.Stage stage ∷ [] = ap (λ l. line.Head v ∷ l) (last_line plans w more (line.Stage stage) (stage_lines w stage none)) in
+      let lines : line.Head v ∷ flat_map region_lines (plans ++ more ∷ []) ≡ so_far ++ line.Stage stage ∷ [] = ap (λ l. line.Head v ∷ l)
+      (last_line plans w more (line.Stage stage) (stage_lines w stage none)) in
       let fits_more : LastFits more = record {
         least_words = last.least_words;
         most_words = last.most_words;
@@ -130,7 +151,8 @@ module _ (n : ℕ) (v : Bool) (plans : List WrittenPlan) (w : WrittenPlan) (some
         first_stages = λ none. absurd (omega (arith, none, length-append w.stages (stage ∷ [])));
       } in
       subst (λ (q : Reader). Reads n q (so_far ++ line.Stage stage ∷ [])) t.1
-      (subst (λ (ls : List Line). Reads n (inside v plans more) ls) lines (in_region v plans more some upto (last_numbers plans w more refl numbers) fit fits_more))
+      (subst (λ (ls : List Line). Reads n (inside v plans more) ls) lines
+      (in_region v plans more some upto (last_numbers plans w more refl numbers) fit fits_more))
 
   assume_after : (a : Assume) (s : Reader) → AssumeFits a → next n (inside v plans w) (line.Assume a) ≡ Some s → Reads n s (so_far ++ line.Assume a ∷ [])
   unfolding next
@@ -138,7 +160,8 @@ module _ (n : ℕ) (v : Bool) (plans : List WrittenPlan) (w : WrittenPlan) (some
       let t = taken _ _ s h in let b = both _ _ t.0 in
       let full : 0 < length w.stages = let lt : nat_lt 0 (length w.stages) ≡ true = b.second in search rules in
       let more = more_assume w a in
-      let lines : line.Head v ∷ flat_map region_lines (plans ++ more ∷ []) ≡ so_far ++ line.Assume a ∷ [] = ap (λ l. line.Head v ∷ l) (last_line plans w more (line.Assume a) (assume_lines w a)) in
+      let lines : line.Head v ∷ flat_map region_lines (plans ++ more ∷ []) ≡ so_far ++ line.Assume a ∷ [] = ap (λ l. line.Head v ∷ l)
+      (last_line plans w more (line.Assume a) (assume_lines w a)) in
       let fits_more : LastFits more = record {
         least_words = last.least_words;
         most_words = last.most_words;
@@ -148,7 +171,8 @@ module _ (n : ℕ) (v : Bool) (plans : List WrittenPlan) (w : WrittenPlan) (some
         first_stages = λ none. absurd (omega (arith, none, full));
       } in
       subst (λ (q : Reader). Reads n q (so_far ++ line.Assume a ∷ [])) t.1
-      (subst (λ (ls : List Line). Reads n (inside v plans more) ls) lines (in_region v plans more some upto (last_numbers plans w more refl numbers) fit fits_more))
+      (subst (λ (ls : List Line). Reads n (inside v plans more) ls) lines
+      (in_region v plans more some upto (last_numbers plans w more refl numbers) fit fits_more))
 
   end_after : (s : Reader) → next n (inside v plans w) line.End ≡ Some s → Reads n s (so_far ++ line.End ∷ [])
   unfolding next
@@ -167,7 +191,8 @@ unfolding next
 start_after n (line.Head v) s h = let is : inside v [] (part 0 0 [] []) ≡ s = cc h in rw (← is) (headed v)
 start_after n _ s h = absurd (cc h)
 
-first_region : (v : Bool) (n r words : ℕ) (s : Reader) → LineFits (line.Region r words) → next n (inside v [] (part 0 0 [] [])) (line.Region r words) ≡ Some s → Reads n s (line.Head v ∷ line.Region r words ∷ [])
+first_region : (v : Bool) (n r words : ℕ) (s : Reader) → LineFits (line.Region r words) → next n (inside v [] (part 0 0 [] [])) (line.Region r words) ≡ Some s →
+    Reads n s (line.Head v ∷ line.Region r words ∷ [])
 unfolding next
 first_region v n r words s fits h =
     let t = taken _ _ s h in let c = both _ _ t.0 in
@@ -194,13 +219,16 @@ unfolding next
 over_after n v plans (line.Head other) s h = cc h
 over_after n v plans _ s h = cc h
 
-pub reads_next : (n : ℕ) (o : Reader) (ls : List Line) (l : Line) (s : Reader) → Reads n o ls → LineFits l → next_by n o (Some l) ≡ Some s → Reads n s (ls ++ l ∷ [])
+pub reads_next : (n : ℕ) (o : Reader) (ls : List Line) (l : Line) (s : Reader) → Reads n o ls → LineFits l → next_by n o (Some l) ≡ Some s →
+    Reads n s (ls ++ l ∷ [])
 unfolding next_by
 reads_next n _ _ l s at_start fits h = start_after n l s h
 reads_next n _ _ l s (headed v) fits h = headed_after v n l s fits h
 reads_next n _ _ (line.Head other) s (in_region v plans w some upto numbers fit last) fits h = head_after n v plans w some upto numbers fit last other s h
-reads_next n _ _ (line.Region r words) s (in_region v plans w some upto numbers fit last) fits h = region_after n v plans w some upto numbers fit last r words s fits h
-reads_next n _ _ (line.Stage stage) s (in_region v plans w some upto numbers fit last) fits h = stage_after n v plans w some upto numbers fit last stage s fits h
+reads_next n _ _ (line.Region r words) s (in_region v plans w some upto numbers fit last) fits h =
+    region_after n v plans w some upto numbers fit last r words s fits h
+reads_next n _ _ (line.Stage stage) s (in_region v plans w some upto numbers fit last) fits h =
+    stage_after n v plans w some upto numbers fit last stage s fits h
 reads_next n _ _ (line.Assume a) s (in_region v plans w some upto numbers fit last) fits h = assume_after n v plans w some upto numbers fit last a s fits h
 reads_next n _ _ line.End s (in_region v plans w some upto numbers fit last) fits h = end_after n v plans w some upto numbers fit last s h
 reads_next n _ _ l s (at_end v plans numbers fit) fits h = absurd (over_after n v plans l s h)

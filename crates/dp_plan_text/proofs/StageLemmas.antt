@@ -1,5 +1,6 @@
 -- The sites of a line, word by word; the stage of a site, line by line; neighbours that pass a test, as neighbouring stages.
-use Rattle.std.proofs.Common.{◌≡◌, refl, sym, ◌∙◌, ap, arith, ℕ, suc, ◌+◌, ◌<◌, ◌≤◌, if◌then◌else◌, true, false, List, ◌∷◌, length, drop, get_or, add-one, drop-cons, length-drop, None, Bool, Option, Some, ◌++◌}
+use Rattle.std.proofs.Common.{◌≡◌, refl, sym, ◌∙◌, ap, arith, ℕ, suc, ◌+◌, ◌<◌, ◌≤◌, if◌then◌else◌, true, false, List, ◌∷◌, length, drop, get_or, add-one}
+use Rattle.std.proofs.Common.{drop-cons, length-drop, None, Bool, Option, Some, ◌++◌}
 use Rattle.dp_plan.specs.Written.{has, stage_from}
 use Rattle.dp_plan.specs.declared.WrittenStage.{WrittenStage}
 use Rattle.dp_plan.specs.Rules.{second_neighbour, least_site_in}
@@ -46,7 +47,8 @@ module _ {X : Type 0} (test : X → X → Bool) where
       two =
           let later : drop (k + 1) xs ≡ y ∷ drop (suc (k + 1)) xs = drop-cons xs (k + 1) y lt ∙ ap (λ (e : X). e ∷ drop (suc (k + 1)) xs) (sym second) in
           let plus : suc k ≡ k + 1 = omega arith in let more : suc (k + 1) ≡ k + 2 = omega arith in
-          drop-cons xs k x (omega (arith, lt)) ∙ ap (λ (e : X). e ∷ drop (suc k) xs) (sym first) ∙ ap (λ n. x ∷ drop n xs) plus ∙ ap (λ l. x ∷ l) later ∙ ap (λ n. x ∷ y ∷ drop n xs) more
+          drop-cons xs k x (omega (arith, lt)) ∙ ap (λ (e : X). e ∷ drop (suc k) xs) (sym first) ∙ ap (λ n. x ∷ drop n xs) plus ∙ ap (λ l. x ∷ l) later
+          ∙ ap (λ n. x ∷ y ∷ drop n xs) more
 
       pub pair_here : test x y ≡ true → Some y ≡ first_pair xs
       pair_here e = sym (ap first_pair two ∙ ap (λ b. if b then Some y else first_pair (y ∷ drop (k + 2) xs)) e) ∙ so_far

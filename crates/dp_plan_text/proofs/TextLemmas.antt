@@ -9,7 +9,7 @@ use Rattle.dp_plan_text.specs.declared.line.Line.{Line}
 use Rattle.dp_plan_text.specs.declared.reader.Reader.{Reader}
 use Rattle.dp_plan_text.specs.declared.reader.Phase.{Phase}
 use Rattle.dp_plan_text.specs.declared.reader.Phase.TheVariants as phase
-use Rattle.dp_plan_text.specs.PlanText.{PlanLines, line_bytes, plan_lines, words_of}
+use Rattle.dp_plan_text.specs.PlanText.{PlanLines, plan_line_bytes, plan_lines, plan_words}
 use Rattle.dp_plan_text.specs.Refused.{IsPlanText}
 use Rattle.dp_plan_text.specs.steps.Ending.{ReadsText, finished}
 use Rattle.dp_plan_text.specs.steps.LineWords.{line_of}
@@ -30,7 +30,7 @@ no_line n s = refl
 -- the lines of plans for so many regions
 abbrev pub plan_grammar : ℕ → Grammar Line Reader
 plan_grammar n = record {
-  words_of = words_of;
+  words_of = plan_words;
   Fits = LineFits;
   line_of = line_of;
   are_words = are_words;
@@ -51,7 +51,8 @@ over_phase phase.Over h = refl
 
 module _ (p : Program) (small : length p.regions < 2 ^ 32) where
   -- the lines of a text of the grammar are read to their end
-  pub text_runs : (lines : List (List ℕ)) (v : Bool) (plans : List WrittenPlan) → PlanLines p lines v plans → run_bytes (plan_grammar (length p.regions)) (Some begun) lines ≡ Some (over v plans)
+  pub text_runs : (lines : List (List ℕ)) (v : Bool) (plans : List WrittenPlan) → PlanLines p lines v plans →
+      run_bytes (plan_grammar (length p.regions)) (Some begun) lines ≡ Some (over v plans)
   unfolding next_by
   text_runs lines v plans t =
       let g = plan_grammar (length p.regions) in
@@ -59,11 +60,12 @@ module _ (p : Program) (small : length p.regions < 2 ^ 32) where
       ∙ run_bytes-lines g (Some begun) (plan_lines v plans) (all_lines_fit v plans (length p.regions) t.regions small t.fit)
       ∙ lines_run (length p.regions) v plans t.regions t.fit
 
-  reads_on : (s : Reader) (ls : List Line) → Reads (length p.regions) s ls → (more : List Line) × IsPlanText p (map line_bytes (ls ++ more))
+  reads_on : (s : Reader) (ls : List Line) → Reads (length p.regions) s ls → (more : List Line) × IsPlanText p (map plan_line_bytes (ls ++ more))
   reads_on s ls r =
       let n = length p.regions in let e : Ends (length p.regions) s = reads_end n s ls small r in
-      let t : IsText (length p.regions) e.proved e.plans (ls ++ e.more) = reads_over n (over e.proved e.plans) (ls ++ e.more) (reads_more n e.more s (over e.proved e.plans) ls r e.fit e.runs) refl in
-      (e.more, (e.proved, e.plans, record { lines_are = ap (map line_bytes) t.are; regions = t.numbers; fit = t.fit }))
+      let t : IsText (length p.regions) e.proved e.plans (ls ++ e.more) = reads_over n (over e.proved e.plans) (ls ++ e.more)
+      (reads_more n e.more s (over e.proved e.plans) ls r e.fit e.runs) refl in
+      (e.more, (e.proved, e.plans, record { lines_are = ap (map plan_line_bytes) t.are; regions = t.numbers; fit = t.fit }))
 
   plan_texts : Texts (plan_grammar (length p.regions)) (IsPlanText p) (λ s. is_over s.phase)
   plan_texts = record {
@@ -74,9 +76,11 @@ module _ (p : Program) (small : length p.regions < 2 ^ 32) where
   ended : (bytes : List ℕ) (r : Reading Reader) → AreRead plan_texts (lines_of bytes) r → ReadsText p bytes (finished r)
   ended bytes (reading.Over s) e =
       let t : IsText (length p.regions) s.proved s.plans e.0.lines = reads_over (length p.regions) s e.0.lines e.0.reads (over_phase s.phase e.1) in
-      record { lines_are = e.0.are ∙ ap (map line_bytes) t.are; regions = t.numbers; fit = t.fit }
+      record { lines_are = e.0.are ∙ ap (map plan_line_bytes) t.are; regions = t.numbers; fit = t.fit }
   ended bytes (reading.Refused line) e = e
 
   -- what a text is read as, line by line
-  pub text_read : (bytes : List ℕ) → ReadsText p bytes (finished (read_from (next_text (plan_grammar (length p.regions))) (λ s. is_over s.phase) 1 begun (lines_of bytes)))
-  text_read bytes = ended bytes (read_from (next_text (plan_grammar (length p.regions))) (λ s. is_over s.phase) 1 begun (lines_of bytes)) (are_read plan_texts bytes)
+  pub text_read : (bytes : List ℕ) →
+      ReadsText p bytes (finished (read_from (next_text (plan_grammar (length p.regions))) (λ s. is_over s.phase) 1 begun (lines_of bytes)))
+  text_read bytes = ended bytes (read_from (next_text (plan_grammar (length p.regions))) (λ s. is_over s.phase) 1 begun (lines_of bytes))
+      (are_read plan_texts bytes)

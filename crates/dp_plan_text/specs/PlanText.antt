@@ -2,7 +2,7 @@
 use Rattle.std.specs.Prelude.{◌≡◌, ℕ, Bool, true, false, List, [], ◌∷◌, ◌++◌, map, length, codes, decimal}
 use Rattle.std.specs.List.{flat_map}
 use Rattle.dp_text.specs.Lines.{lines_of}
-use Rattle.dp_text.specs.Words.{joined}
+use Rattle.dp_text.specs.Words.{joined_words}
 use Rattle.dp_tree.specs.declared.Program.{Program}
 use Rattle.dp_tree.specs.Numbering.{numbers_from}
 use Rattle.dp_plan.specs.declared.StageKind.{StageKind}
@@ -28,16 +28,16 @@ version_number true = 2
 version_number false = 1
 
 -- the words of a line; numbers are decimal, without a sign or leading zeros
-abbrev pub words_of : Line → List (List ℕ)
-words_of (line.Head proved) = codes "plan" ∷ decimal (version_number proved) ∷ []
-words_of (line.Region r w) = codes "region" ∷ decimal r ∷ codes "words" ∷ decimal w ∷ []
-words_of (line.Stage stage) = kind_word stage.kind ∷ map decimal stage.sites
-words_of (line.Assume a) = codes "assume" ∷ decimal a.site.0 ∷ decimal (outcome_number a.taken) ∷ []
-words_of line.End = codes "end" ∷ []
+abbrev pub plan_words : Line → List (List ℕ)
+plan_words (line.Head proved) = codes "plan" ∷ decimal (version_number proved) ∷ []
+plan_words (line.Region r w) = codes "region" ∷ decimal r ∷ codes "words" ∷ decimal w ∷ []
+plan_words (line.Stage stage) = kind_word stage.kind ∷ map decimal stage.sites
+plan_words (line.Assume a) = codes "assume" ∷ decimal a.site.0 ∷ decimal (outcome_number a.taken) ∷ []
+plan_words line.End = codes "end" ∷ []
 
 -- the line's bytes: its words with single spaces between, and LF
-abbrev pub line_bytes : Line → List ℕ
-line_bytes l = joined (words_of l) ++ 10 ∷ []
+abbrev pub plan_line_bytes : Line → List ℕ
+plan_line_bytes l = joined_words (plan_words l) ++ 10 ∷ []
 
 -- the lines of a region: the first, one for each stage in order, and one for each assumption as they stand
 abbrev pub region_lines : WrittenPlan → List Line
@@ -47,13 +47,13 @@ region_lines w = line.Region w.region w.words ∷ (map line.Stage w.stages ++ ma
 abbrev pub plan_lines : Bool → List WrittenPlan → List Line
 plan_lines proved plans = line.Head proved ∷ (flat_map region_lines plans ++ line.End ∷ [])
 
-abbrev pub region_number : WrittenPlan → ℕ
-region_number w = w.region
+abbrev pub written_region : WrittenPlan → ℕ
+written_region w = w.region
 
 -- the lines are those of these plans, one for each region of the program in order, in the version with proved independence or in the one without
 pub record PlanLines (p : Program) (lines : List (List ℕ)) (proved : Bool) (plans : List WrittenPlan) : Type 0 where
-  pub lines_are : lines ≡ map line_bytes (plan_lines proved plans)
-  pub regions : map region_number plans ≡ numbers_from 1 (length p.regions)
+  pub lines_are : lines ≡ map plan_line_bytes (plan_lines proved plans)
+  pub regions : map written_region plans ≡ numbers_from 1 (length p.regions)
   pub fit : Each PlanFits plans
 
 -- the text is that of these plans

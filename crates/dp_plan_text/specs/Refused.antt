@@ -17,8 +17,8 @@ abbrev pub IsPlanText : Program → List (List ℕ) → Type 0
 IsPlanText p lines = (proved : Bool) × (plans : List WrittenPlan) × PlanLines p lines proved plans
 
 -- the text isn't in the grammar, from this line on
-abbrev pub IsRefused : Program → List ℕ → ℕ → Type 0
-IsRefused p bytes line = IsRefusedAt (IsPlanText p) (lines_of bytes) line
+abbrev pub IsRefusedPlans : Program → List ℕ → ℕ → Type 0
+IsRefusedPlans p bytes line = IsRefusedAt (IsPlanText p) (lines_of bytes) line
 
 -- the text is in the grammar, and its plans break this rule first, or none
 abbrev pub IsBroken : Program → List ℕ → Option BrokenRule → Type 0
@@ -26,15 +26,16 @@ IsBroken p bytes fault = (proved : Bool) × (plans : List WrittenPlan) × PlanTe
 
 -- the text is in the grammar, its plans are valid, and stand for these, with the version that its first line names
 abbrev pub StandsFor : Program → List ℕ → List Plan → Type 0
-StandsFor p bytes plans = (proved : Bool) × (written : List WrittenPlan) × PlanText p bytes proved written × (first_fault p written ≡ None) × (plans ≡ map (plan_of p proved) written)
+StandsFor p bytes plans = (proved : Bool) × (written : List WrittenPlan) × PlanText p bytes proved written × (first_fault p written ≡ None)
+    × (plans ≡ map (plan_of p proved) written)
 
 -- what a text is read as; want of memory may come at any place
-abbrev pub ReadsAs : Program → List ℕ → Result (List Plan) PlanFail → Type 0
-ReadsAs p bytes (Ok plans) = StandsFor p bytes plans
-ReadsAs p bytes (Err (Refused line)) = IsRefused p bytes line
-ReadsAs p bytes (Err (Invalid rule site)) = IsBroken p bytes (Some (record { rule = rule; site = site.0 }))
-ReadsAs p bytes (Err NoMemory) = Unit {0}
+abbrev pub ReadsAsPlans : Program → List ℕ → Result (List Plan) PlanFail → Type 0
+ReadsAsPlans p bytes (Ok plans) = StandsFor p bytes plans
+ReadsAsPlans p bytes (Err (Refused line)) = IsRefusedPlans p bytes line
+ReadsAsPlans p bytes (Err (Invalid rule site)) = IsBroken p bytes (Some (record { rule = rule; site = site.0 }))
+ReadsAsPlans p bytes (Err NoMemory) = Unit {0}
 
 -- Reading the text gives these plans and nothing else, unless memory is wanting.
-abbrev pub ReadsOnly : Program → List ℕ → List Plan → Type 0
-ReadsOnly p bytes plans = (result : Result (List Plan) PlanFail) → ReadsAs p bytes result → (result ≡ Ok plans) ⊎ (result ≡ Err NoMemory)
+abbrev pub ReadsOnlyPlans : Program → List ℕ → List Plan → Type 0
+ReadsOnlyPlans p bytes plans = (result : Result (List Plan) PlanFail) → ReadsAsPlans p bytes result → (result ≡ Ok plans) ⊎ (result ≡ Err NoMemory)

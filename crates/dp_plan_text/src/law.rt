@@ -6,7 +6,7 @@ ghost use Rattle.dp_plan.specs.declared.Plan.{Plan as plan};
 ghost use Rattle.dp_plan_text.specs.Refused.{StandsFor};
 ghost use Rattle.dp_plan_text.specs.WrittenText.{plans_text};
 ghost use Rattle.dp_plan.specs.GivenPlans.{ArePlans};
-ghost use Rattle.dp_plan_text.specs.Refused.{ReadsOnly};
+ghost use Rattle.dp_plan_text.specs.Refused.{ReadsOnlyPlans};
 
 use dp_tree::Program;
 
@@ -15,7 +15,7 @@ use dp_tree::Program;
 pub fn written_plans_are_read(p: &Program)
     requires inlined { IsInlined p.now }
     ensures stand { (plans : List plan) → ArePlans p.now plans → StandsFor p.now (plans_text p.now plans) plans }
-    ensures alone { (plans : List plan) → ArePlans p.now plans → ReadsOnly p.now (plans_text p.now plans) plans }
+    ensures alone { (plans : List plan) → ArePlans p.now plans → ReadsOnlyPlans p.now (plans_text p.now plans) plans }
 {}
 
 /// What a text is read as are plans of the program, one for each region in order, so what is written of them is read back.

@@ -2,7 +2,7 @@
 
 ghost use Rattle.std.specs.Prelude.{◌≡◌, IfOk};
 ghost use Rattle.std.specs.Option.{option_copied};
-ghost use Rattle.dp_text.specs.Words.{words, words_behind, number_of};
+ghost use Rattle.dp_text.specs.Words.{words, words_behind, small_number};
 ghost use Rattle.dp_plan_text.specs.steps.LineWords as spec;
 
 use dp_base::limits::{LEAST_WORDS, MOST_WORDS};
@@ -24,7 +24,7 @@ pub enum Line {
 
 /// The number that a word writes, where it is above another.
 fn number_above(low: u32, word: &[u8]) -> Option<u32>
-    ensures { result ≡ spec.above low (number_of word.now) }
+    ensures { result ≡ spec.above low (small_number word.now) }
 {
     let site = number(word)?;
     if low < site { Some(site) } else { None }

@@ -2,7 +2,7 @@
 
 ghost use Rattle.std.specs.Prelude.{◌≡◌, ◌≤◌, ◌^◌, IfOk, MatchResult, map, filter_map};
 ghost use Rattle.dp_plan.specs.Written as written;
-ghost use Rattle.dp_plan_text.specs.Refused.{ReadsAs};
+ghost use Rattle.dp_plan_text.specs.Refused.{ReadsAsPlans};
 
 use crate::PlanFail;
 use crate::rules::{first_fault, written_stage};
@@ -113,7 +113,7 @@ fn plans_of(
 ///
 /// The lines are judged first, then the rules, region by region.
 pub fn read_plans(alloc: Global, bytes: &[u8], p: &Program) -> Result<Row<Plan>, PlanFail>
-    ensures { ReadsAs p.now bytes.now result }
+    ensures { ReadsAsPlans p.now bytes.now result }
 {
     let text = read_text(alloc, bytes, p)?;
     let written = text.plans.as_slice();

@@ -4,7 +4,7 @@ ghost use Rattle.std.specs.Prelude.{◌≡◌, ◌++◌, OnOk, IfOk};
 ghost use Rattle.dp_text.specs.Labels.{spaced};
 ghost use Rattle.dp_plan_text.specs.declared.line.Line.TheVariants as line;
 ghost use Rattle.dp_plan_text.specs.PlanText as plan_text;
-ghost use Rattle.dp_plan.specs.GivenPlans.{version_of};
+ghost use Rattle.dp_plan.specs.GivenPlans.{plans_version};
 ghost use Rattle.dp_plan_text.specs.WrittenText as text;
 
 use dp_base::{NoMemory, Row, SiteId};
@@ -29,7 +29,7 @@ pub fn write_plans(alloc: Global, plans: &[Plan], p: &Program) -> Result<Row<u8>
 
 /// The version of plans that have one: without a plan, the second.
 fn is_proved(plans: &[Plan]) -> bool
-    ensures { result ≡ version_of plans.now }
+    ensures { result ≡ plans_version plans.now }
 {
     match plans {
         [] => true,
@@ -38,7 +38,7 @@ fn is_proved(plans: &[Plan]) -> bool
 }
 
 fn put_head(out: &mut Row<u8>, proved: bool) -> Result<(), NoMemory>
-    ensures { OnOk result (out.new ≡ out.old ++ text.line_text (line.Head proved)) }
+    ensures { OnOk result (out.new ≡ out.old ++ text.plan_line_text (line.Head proved)) }
 {
     put_labelled(out, b"plan ", version_number(proved))?;
     out.push(b'\n')
@@ -61,7 +61,7 @@ fn put_plan(alloc: Global, out: &mut Row<u8>, plan: &Plan, p: &Program) -> Resul
 }
 
 fn put_region(out: &mut Row<u8>, region: u32, words: u32) -> Result<(), NoMemory>
-    ensures { OnOk result (out.new ≡ out.old ++ text.line_text (line.Region region words)) }
+    ensures { OnOk result (out.new ≡ out.old ++ text.plan_line_text (line.Region region words)) }
 {
     put_labelled(out, b"region ", u64::from(region))?;
     put_labelled(out, b" words ", u64::from(words))?;
@@ -86,7 +86,7 @@ fn put_stage(
     stage: u64,
     kind: StageKind,
 ) -> Result<(), NoMemory>
-    ensures { OnOk result (out.new ≡ out.old ++ text.line_text (line.Stage (text.stage_at p.now plan.now sites.now stage kind))) }
+    ensures { OnOk result (out.new ≡ out.old ++ text.plan_line_text (line.Stage (text.written_stage_at p.now plan.now sites.now stage kind))) }
 {
     out.extend_from_slice(kind_word(kind))?;
     put_sites(out, plan, p, sites, stage)?;
@@ -130,7 +130,7 @@ fn put_assumed(out: &mut Row<u8>, assumed: &[Assume]) -> Result<(), NoMemory>
 }
 
 fn put_assume(out: &mut Row<u8>, assume: Assume) -> Result<(), NoMemory>
-    ensures { OnOk result (out.new ≡ out.old ++ text.line_text (line.Assume assume)) }
+    ensures { OnOk result (out.new ≡ out.old ++ text.plan_line_text (line.Assume assume)) }
 {
     put_labelled(out, b"assume ", u64::from(assume.site.0))?;
     put_labelled(out, b" ", outcome_number(assume.taken))?;

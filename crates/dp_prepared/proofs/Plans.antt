@@ -14,7 +14,8 @@ planned p inlined plan is =
     record { inlined = inlined; is_plan = is; counted = within.0; known = let less = within.1 in omega (arith, less) }
 
 -- each of the plans is
-pub planned_at : (p : Program) → IsInlined p → (plans : List Plan) (i : ℕ) (plan : Plan) → Each (IsPlan p) plans → slice_get plans i ≡ Some plan → IsPlanned p plan
+pub planned_at : (p : Program) → IsInlined p → (plans : List Plan) (i : ℕ) (plan : Plan) → Each (IsPlan p) plans →
+    slice_get plans i ≡ Some plan → IsPlanned p plan
 planned_at p inlined [] i plan each at = absurd (cc at)
 planned_at p inlined (x ∷ plans) zero plan each at = planned p inlined plan (subst (IsPlan p) (cc at) each.0)
 planned_at p inlined (x ∷ plans) (suc i) plan each at = planned_at p inlined plans i plan each.1 at

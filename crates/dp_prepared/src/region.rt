@@ -37,7 +37,7 @@ impl<'p> Model for PreparedRegion<'p> {
 }
 
 impl<'p> PreparedRegion<'p> {
-    ghost use Rattle.dp_lean_region.specs.Line.{plan_of, program_of};
+    ghost use Rattle.dp_lean_region.specs.Line.{line_plan, line_program};
 
     /// The region of a plan that is given for the program.
     pub fn new(
@@ -84,8 +84,8 @@ impl<'p> PreparedRegion<'p> {
 
     /// What the stages of its epochs and their judge run on, with an input.
     pub fn line<'u>(&'u self, input: &'u [i64]) -> Line<'u>
-        ensures program { program_of result ≡ self.entry.now.program }
-        ensures plan { plan_of result ≡ self.entry.now.plan }
+        ensures program { line_program result ≡ self.entry.now.program }
+        ensures plan { line_plan result ≡ self.entry.now.plan }
         ensures input { result.input.now ≡ input.entry.now }
         ensures planned { IsPlanned self.entry.now.program self.entry.now.plan }
     {

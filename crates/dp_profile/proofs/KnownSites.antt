@@ -1,5 +1,6 @@
 -- In an inlined program the sites of regions and the regions are few, so that their numbers have 32 bits.
-use Rattle.std.proofs.Common.{◌≡◌, refl, sym, ap, subst, ◌∙◌, ℕ, suc, ◌+◌, ◌≤◌, Bool, true, false, List, [], ◌∷◌, ◌++◌, map, filter, length, length-append, arith}
+use Rattle.std.proofs.Common.{◌≡◌, refl, sym, ap, subst, ◌∙◌, ℕ, suc, ◌+◌, ◌≤◌, Bool, true, false, List, [], ◌∷◌, ◌++◌, map, filter, length, length-append}
+use Rattle.std.proofs.Common.{arith}
 use Rattle.std.specs.Prelude.{if◌then◌else◌}
 use Rattle.std.proofs.lemmas.List.{map-append, length-map}
 use Rattle.dp_tree.specs.declared.Program.{Program}
@@ -46,7 +47,8 @@ statement_small k x up low =
     let long : length (site_numbers x) ≡ length (sites x) = ap length same ∙ length-map (sites x) number in
     each_small k (sites x) (subst (λ (ns : List ℕ). Ascends k ns) same up) (omega (arith, low, long))
 
-all_small : (main : List Stmt) (k : ℕ) → Ascends k (site_numbers_all main) → k + length (site_numbers_all main) ≤ suc top → Each (Each SmallSite) (map sites (filter is_marked main))
+all_small : (main : List Stmt) (k : ℕ) → Ascends k (site_numbers_all main) → k + length (site_numbers_all main) ≤ suc top →
+    Each (Each SmallSite) (map sites (filter is_marked main))
 all_small [] k up low = tt
 all_small (x ∷ rest) k up low = by (is_marked x) (all_small rest (k + length (site_numbers x)) parts.1 (omega (arith, low, long)))
   where
@@ -56,7 +58,8 @@ all_small (x ∷ rest) k up low = by (is_marked x) (all_small rest (k + length (
     long : length (site_numbers_all (x ∷ rest)) ≡ length (site_numbers x) + length (site_numbers_all rest)
     long = length-append (site_numbers x) (site_numbers_all rest)
 
-    by : (on : Bool) → Each (Each SmallSite) (map sites (filter is_marked rest)) → Each (Each SmallSite) (map sites (if on then x ∷ filter is_marked rest else filter is_marked rest))
+    by : (on : Bool) → Each (Each SmallSite) (map sites (filter is_marked rest)) →
+        Each (Each SmallSite) (map sites (if on then x ∷ filter is_marked rest else filter is_marked rest))
     by true later = (statement_small k x parts.0 (omega (arith, low, long)), later)
     by false later = later
 
@@ -77,4 +80,5 @@ module _ (p : Program) (inlined : IsInlined p) where
   few_regions = omega (arith, inlined.few, many p inlined, fewer p.main)
 
   pub small_sites : Each (Each SmallSite) (regions p)
-  small_sites = all_small p.main 1 (subst (λ (ns : List ℕ). Ascends 1 ns) (sym inlined.sites) (ascends-numbers_from 1 (length p.sites))) (omega (arith, inlined.few, many p inlined))
+  small_sites = all_small p.main 1 (subst (λ (ns : List ℕ). Ascends 1 ns) (sym inlined.sites) (ascends-numbers_from 1 (length p.sites)))
+      (omega (arith, inlined.few, many p inlined))

@@ -1,5 +1,6 @@
 -- What a run shows of the program's regions: counts over its trace.
-use Rattle.std.specs.Prelude.{ℕ, ◌+◌, ◌==◌, if◌then◌else◌, Bool, true, false, not, ◌&&◌, ◌||◌, nat_le, nat_lt, List, [], ◌∷◌, ◌++◌, map, count_by, ℤ, Option, Some, None}
+use Rattle.std.specs.Prelude.{ℕ, ◌+◌, ◌==◌, if◌then◌else◌, Bool, true, false, not, ◌&&◌, ◌||◌, nat_le, nat_lt, List, [], ◌∷◌, ◌++◌, map, count_by, ℤ, Option}
+use Rattle.std.specs.Prelude.{Some, None}
 use Rattle.std.specs.List.{list_any, flat_map}
 use Rattle.dp_base.specs.Arithmetic.{is_zero}
 use Rattle.dp_tree.specs.declared.VarInfo.{VarInfo}
@@ -9,7 +10,7 @@ use Rattle.dp_tree.specs.Trace.{Run, run_of, begin}
 use Rattle.dp_profile.specs.declared.RegionProfile.{RegionProfile}
 use Rattle.dp_profile.specs.declared.SiteCount.{SiteCount}
 use Rattle.dp_profile.specs.declared.Flow.{Flow}
-use Rattle.dp_profile.specs.Sites.{RegionSite, regions, has_site}
+use Rattle.dp_profile.specs.Sites.{RegionSite, regions, has_numbered_site}
 pub use Rattle.dp_profile.specs.declared.Observed.{Observed}
 
 -- a region of which nothing is shown
@@ -24,8 +25,8 @@ gives_nonzero (Stored cell value) = false
 gives_nonzero (Printed value) = false
 
 -- how often the site was evaluated, and how often its condition gave another value than 0
-abbrev pub site_count : List Event → RegionSite → SiteCount
-site_count trace s = record {
+abbrev pub counts_of_site : List Event → RegionSite → SiteCount
+counts_of_site trace s = record {
   runs = count_by (λ e. e.site == s.site.0) trace;
   nonzero = count_by (λ e. (e.site == s.site.0) && gives_nonzero e.effect) trace;
 }
@@ -36,47 +37,48 @@ begins_iteration [] e = false
 begins_iteration (s ∷ rest) e = s.site.0 == e.site
 
 -- the event stores into the cell
-abbrev pub stores_into : ℕ → Effect → Bool
-stores_into cell (Stored c value) = c == cell
-stores_into cell (Printed value) = false
-stores_into cell (Decided value) = false
-stores_into cell (Tried value) = false
+abbrev pub stores_to_cell : ℕ → Effect → Bool
+stores_to_cell cell (Stored c value) = c == cell
+stores_to_cell cell (Printed value) = false
+stores_to_cell cell (Decided value) = false
+stores_to_cell cell (Tried value) = false
 
 -- a store that is found: its site, and whether it was of an earlier iteration
-pub record Source : Type 0 where
+pub record FoundStore : Type 0 where
   pub site : ℕ
   pub carried : Bool
 
 -- The last store into the cell since the region's start, searched backward through the events before, the latest first; `carried` says
 -- whether an iteration began since the events that were passed. The region started where the events of its sites began.
-abbrev pub last_store : List RegionSite → ℕ → Bool → List Event → Option Source
+abbrev pub last_store : List RegionSite → ℕ → Bool → List Event → Option FoundStore
 last_store sites cell carried [] = None
 last_store sites cell carried (e ∷ before) =
-    if has_site e.site sites then
-    (if stores_into cell e.effect then Some (record { site = e.site; carried = carried }) else last_store sites cell (carried || begins_iteration sites e) before)
+    if has_numbered_site e.site sites then
+    (if stores_to_cell cell e.effect then Some (record { site = e.site; carried = carried }) else last_store sites cell
+    (carried || begins_iteration sites e) before)
     else None
 
 -- the cell is one of the variable
-abbrev pub is_cell_of : ℕ → VarInfo → Bool
-is_cell_of cell x = nat_le x.first.0 cell && nat_lt cell (x.first.0 + x.length)
+abbrev pub is_cell_in : ℕ → VarInfo → Bool
+is_cell_in cell x = nat_le x.first.0 cell && nat_lt cell (x.first.0 + x.length)
 
 -- the cell is that of a body local of region r
-abbrev pub is_local_cell : Program → ℕ → ℕ → Bool
-is_local_cell p r cell = list_any (λ x. is_local_of r x.scope && is_cell_of cell x) p.vars
+abbrev pub is_body_cell : Program → ℕ → ℕ → Bool
+is_body_cell p r cell = list_any (λ x. is_local_of r x.scope && is_cell_in cell x) p.vars
 
 abbrev pub same_kind : Bool → Bool → Bool
 same_kind true b = b
 same_kind false b = not b
 
 -- the store is of this site and this kind; a body local has no value of an earlier iteration
-abbrev pub is_from : Bool → ℕ → Bool → Option Source → Bool
+abbrev pub is_from : Bool → ℕ → Bool → Option FoundStore → Bool
 is_from local from carried None = false
 is_from local from carried (Some s) = (s.site == from) && (same_kind s.carried carried && not (s.carried && local))
 
 -- how many of the event's loads are of what the site `from` stored, where these events come before
 abbrev pub shown_by : Program → ℕ → List RegionSite → ℕ → Bool → Event → List Event → ℕ
 shown_by p r sites from carried e before =
-    count_by (λ load. is_from (is_local_cell p r load.cell) from carried (last_store sites load.cell (begins_iteration sites e) before)) e.loads
+    count_by (λ load. is_from (is_body_cell p r load.cell) from carried (last_store sites load.cell (begins_iteration sites e) before)) e.loads
 
 -- the same of the events at the site `to` of a trace whose latest event comes first
 abbrev pub shown_back : Program → ℕ → List RegionSite → ℕ → ℕ → Bool → List Event → ℕ
@@ -103,7 +105,7 @@ abbrev pub flows_seen : Program → ℕ → List RegionSite → List Event → L
 flows_seen p r sites trace = flat_map (λ d. flat_map (flows_between p r sites trace d) sites) sites
 
 abbrev pub region_seen : Program → ℕ → List RegionSite → List Event → RegionProfile
-region_seen p r sites trace = record { sites = map (site_count trace) sites; flows = flows_seen p r sites trace }
+region_seen p r sites trace = record { sites = map (counts_of_site trace) sites; flows = flows_seen p r sites trace }
 
 -- the regions from r on
 abbrev pub regions_seen : Program → ℕ → List (List RegionSite) → List Event → List RegionProfile

@@ -7,7 +7,7 @@ use Rattle.dp_profile.specs.declared.Profile.{Profile}
 use Rattle.dp_profile.specs.declared.RegionProfile.{RegionProfile}
 use Rattle.dp_profile.specs.declared.SiteCount.{SiteCount}
 use Rattle.dp_profile.specs.declared.Flow.{Flow}
-use Rattle.dp_profile.specs.Sites.{RegionSite, has_site, regions}
+use Rattle.dp_profile.specs.Sites.{RegionSite, has_numbered_site, regions}
 
 -- the most that a count may be
 abbrev pub most_count : ℕ
@@ -28,8 +28,8 @@ CountsFit (s ∷ sites) (c ∷ counts) = CountFits s c × CountsFit sites counts
 
 -- a flow between two sites of the region, which was seen
 pub record FlowFits (sites : List RegionSite) (f : Flow) : Type 0 where
-  pub from : has_site f.from.0 sites ≡ true
-  pub to : has_site f.to.0 sites ≡ true
+  pub from : has_numbered_site f.from.0 sites ≡ true
+  pub to : has_numbered_site f.to.0 sites ≡ true
   pub some_shown : 1 ≤ f.shown
   pub most_shown : f.shown ≤ most_count
 

@@ -24,8 +24,8 @@ site_at (Break site cond) = region_site site true ∷ []
 site_at (Call f line args) = []
 
 -- the number is that of one of the sites
-abbrev pub has_site : ℕ → List RegionSite → Bool
-has_site n sites = list_any (λ s. s.site.0 == n) sites
+abbrev pub has_numbered_site : ℕ → List RegionSite → Bool
+has_numbered_site n sites = list_any (λ s. s.site.0 == n) sites
 
 -- the sites of a statement
 abbrev pub sites : Stmt → List RegionSite

@@ -9,8 +9,8 @@ use Rattle.dp_profile_text.specs.declared.ProfileFail.TheVariants.{Refused, NoMe
 use Rattle.dp_profile_text.specs.declared.reader.Reader.{Reader}
 use Rattle.dp_profile.specs.Sites.{regions}
 use Rattle.dp_profile.specs.ProfileFits.{ProfileFits}
-use Rattle.dp_profile_text.specs.ProfileText.{ProfileText, profile_lines, words_of}
-use Rattle.dp_profile_text.specs.Refused.{IsProfileText, ReadsOnly}
+use Rattle.dp_profile_text.specs.ProfileText.{ProfileText, profile_lines, profile_words}
+use Rattle.dp_profile_text.specs.Refused.{IsProfileText, ReadsOnlyProfile}
 use Rattle.dp_profile_text.specs.WrittenText.{profile_text}
 use Rattle.dp_profile.proofs.KnownSites.{few_regions, small_sites, top, SmallSite}
 use Rattle.dp_profile_text.proofs.LineComplete.{are_words}
@@ -23,11 +23,12 @@ use Rattle.dp_text.proofs.Unbroken.{lines_whole}
 module _ (p : Program) (few : length (regions p) ≤ top) (small : Each (Each SmallSite) (regions p)) (bytes : List ℕ) where
   one_profile : (profile other : Profile) → ProfileText p bytes profile → ProfileText p bytes other → other ≡ profile
   one_profile profile other s t =
-      let same : Some (over profile.regions) ≡ Some (over other.regions) = sym (text_runs p few small (lines_of bytes) profile s) ∙ text_runs p few small (lines_of bytes) other t in
+      let same : Some (over profile.regions) ≡ Some (over other.regions) = sym (text_runs p few small (lines_of bytes) profile s)
+      ∙ text_runs p few small (lines_of bytes) other t in
       let ends : over profile.regions ≡ over other.regions = cc same in
       sym (ap (λ (r : Reader). record { regions = r.done }) ends)
 
-  pub read_only : (profile : Profile) → ProfileText p bytes profile → ReadsOnly p bytes profile
+  pub read_only : (profile : Profile) → ProfileText p bytes profile → ReadsOnlyProfile p bytes profile
   read_only profile s (Ok other) t = inl (ap (λ (q : Profile). Ok q) (one_profile profile other s t))
   read_only profile s (Err (Refused line)) t = absurd (unrefused (IsProfileText p) (lines_of bytes) line (profile, s) t)
   read_only profile s (Err NoMemory) t = inr refl
@@ -35,11 +36,12 @@ module _ (p : Program) (few : length (regions p) ≤ top) (small : Each (Each Sm
 module _ (p : Program) (inlined : IsInlined p) where
   pub read_back : (profile : Profile) → ProfileFits p profile → ProfileText p (profile_text p profile) profile
   read_back profile fits = record {
-    lines_are = lines_whole words_of are_words (profile_lines p profile) (whole_fits (regions p) profile.regions (few_regions p inlined) (small_sites p inlined) fits);
+    lines_are = lines_whole profile_words are_words (profile_lines p profile) (whole_fits (regions p) profile.regions (few_regions p inlined)
+        (small_sites p inlined) fits);
     fits = fits;
   }
 
-  pub read_back_only : (profile : Profile) → ProfileFits p profile → ReadsOnly p (profile_text p profile) profile
+  pub read_back_only : (profile : Profile) → ProfileFits p profile → ReadsOnlyProfile p (profile_text p profile) profile
   read_back_only profile fits = read_only p (few_regions p inlined) (small_sites p inlined) (profile_text p profile) profile (read_back profile fits)
 
 pub read_fits : (p : Program) (bytes : List ℕ) (profile : Profile) → ProfileText p bytes profile → ProfileFits p profile

@@ -1,5 +1,6 @@
 -- Lines that are read one after the other begin the text of a profile.
-use Rattle.std.proofs.Common.{◌≡◌, ◌⊎◌, inl, inr, ℕ, ◌+◌, ◌-◌, ◌<◌, ◌≤◌, ◌==◌, true, false, ◌&&◌, nat_le, nat_lt, List, [], ◌∷◌, ◌++◌, map, length, Some, slice_get, refl, sym, ap, subst, ◌∙◌, append_assoc, append-nil, length-append, rules, arith, eqb-true}
+use Rattle.std.proofs.Common.{◌≡◌, ◌⊎◌, inl, inr, ℕ, ◌+◌, ◌-◌, ◌<◌, ◌≤◌, ◌==◌, true, false, ◌&&◌, nat_le, nat_lt, List, [], ◌∷◌, ◌++◌, map, length, Some}
+use Rattle.std.proofs.Common.{slice_get, refl, sym, ap, subst, ◌∙◌, append_assoc, append-nil, length-append, rules, arith, eqb-true}
 use Rattle.dp_base.specs.declared.SiteId.{SiteId}
 use Rattle.dp_plan.specs.Each.{Each}
 use Rattle.std.proofs.lemmas.List.{map-append, nil_from_length}
@@ -13,10 +14,11 @@ use Rattle.dp_profile_text.specs.declared.reader.Reader.{Reader}
 use Rattle.dp_profile_text.specs.declared.reader.Phase.TheVariants as phase
 use Rattle.dp_profile.specs.Observed.{nothing_shown}
 use Rattle.dp_profile.specs.declared.sites.RegionSite.{RegionSite}
-use Rattle.dp_profile.specs.Sites.{has_site}
+use Rattle.dp_profile.specs.Sites.{has_numbered_site}
 use Rattle.dp_profile.specs.ProfileFits.{CountsFit, FlowFits, Ascend, RegionFits, RegionsFit}
-use Rattle.dp_profile_text.specs.ProfileText.{runs_lines, region_lines, regions_lines}
-use Rattle.dp_profile_text.specs.steps.Reading.{begun, state, last_sites, is_counted, is_between, closed, region_next, counts_at, is_behind, last_flow, flows_next, next}
+use Rattle.dp_profile_text.specs.ProfileText.{runs_lines, profile_region_lines, regions_lines}
+use Rattle.dp_profile_text.specs.steps.Reading.{begun, state, last_sites, is_counted, is_between, closed, region_next, counts_at, is_behind, last_flow}
+use Rattle.dp_profile_text.specs.steps.Reading.{flows_next, next}
 use Rattle.dp_profile_text.proofs.Fitting.{seam, past, counts_many, counts_more, runs_more, regions_many, regions_fit_more, regions_one, ascend_more}
 use Rattle.dp_profile_text.proofs.LineComplete.{LineFits}
 use Rattle.dp_profile_text.proofs.RunComplete.{counted, within, over, sites_here}
@@ -28,8 +30,10 @@ pub data Reads (all : List (List RegionSite)) : Reader → List Line → Type 0 
   at_start : Reads all begun []
   headed : Reads all (state phase.Headed [] nothing_shown) (line.Head ∷ [])
   in_region : (before later : List (List RegionSite)) (had left : List RegionSite) (done : List RegionProfile) (counts : List SiteCount) (flows : List Flow)
-      → all ≡ before ++ (had ++ left) ∷ later → RegionsFit before done → CountsFit had counts → Each (FlowFits (had ++ left)) flows → Ascend flows → (left ≡ []) ⊎ (flows ≡ [])
-      → Reads all (within done (counted counts flows)) (line.Head ∷ (regions_lines 1 before done ++ region_lines (1 + length before) had (counted counts flows)))
+      → all ≡ before ++ (had ++ left) ∷ later → RegionsFit before done → CountsFit had counts → Each (FlowFits (had ++ left)) flows → Ascend flows →
+      (left ≡ []) ⊎ (flows ≡ [])
+      → Reads all (within done (counted counts flows))
+      (line.Head ∷ (regions_lines 1 before done ++ profile_region_lines (1 + length before) had (counted counts flows)))
   at_end : (done : List RegionProfile) → RegionsFit all done → Reads all (over done) (line.Head ∷ (regions_lines 1 all done ++ line.End ∷ []))
 
 module _ (all before later : List (List RegionSite)) (had left : List RegionSite) (done : List RegionProfile) (counts : List SiteCount) (flows : List Flow)
@@ -39,14 +43,16 @@ module _ (all before later : List (List RegionSite)) (had left : List RegionSite
   last = counted counts flows
 
   abbrev so_far : List Line
-  so_far = line.Head ∷ (regions_lines 1 before done ++ region_lines (1 + length before) had (counted counts flows))
+  so_far = line.Head ∷ (regions_lines 1 before done ++ profile_region_lines (1 + length before) had (counted counts flows))
 
   -- a line behind those so far
-  behind : (l : Line) → so_far ++ l ∷ [] ≡ line.Head ∷ (regions_lines 1 before done ++ (region_lines (1 + length before) had (counted counts flows) ++ l ∷ []))
-  behind l = ap (λ (ls : List Line). line.Head ∷ ls) (append_assoc (regions_lines 1 before done) (region_lines (1 + length before) had last) (l ∷ []))
+  behind : (l : Line) → so_far ++ l ∷ [] ≡ line.Head
+      ∷ (regions_lines 1 before done ++ (profile_region_lines (1 + length before) had (counted counts flows) ++ l ∷ []))
+  behind l = ap (λ (ls : List Line). line.Head ∷ ls) (append_assoc (regions_lines 1 before done) (profile_region_lines (1 + length before) had last) (l ∷ []))
 
   sites_are : last_sites all (within done last) ≡ had ++ left
-  sites_are = ap (λ (l : List (List RegionSite)). last_sites l (within done last)) all_is ∙ sites_here before (had ++ left) later done (regions_many before done done_fit) last
+  sites_are = ap (λ (l : List (List RegionSite)). last_sites l (within done last)) all_is
+      ∙ sites_here before (had ++ left) later done (regions_many before done done_fit) last
 
   none_left : is_counted all (within done last) ≡ true → left ≡ []
   none_left h =
@@ -68,7 +74,8 @@ module _ (all before later : List (List RegionSite)) (had left : List RegionSite
   closed_many : length (done ++ last ∷ []) ≡ length (before ++ had ∷ [])
   closed_many = omega (arith, length-append done (last ∷ []), length-append before (had ∷ []), regions_many before done done_fit)
 
-  lines_closed : regions_lines 1 (before ++ had ∷ []) (done ++ last ∷ []) ≡ regions_lines 1 before done ++ region_lines (1 + length before) had (counted counts flows)
+  lines_closed : regions_lines 1 (before ++ had ∷ []) (done ++ last ∷ []) ≡ regions_lines 1 before done ++ profile_region_lines (1 + length before) had
+      (counted counts flows)
   lines_closed = regions_one before had done last done_fit
 
   pub head_after : (s : Reader) → next all (within done (counted counts flows)) line.Head ≡ Some s → Reads all s (so_far ++ line.Head ∷ [])
@@ -79,7 +86,8 @@ module _ (all before later : List (List RegionSite)) (had left : List RegionSite
   unfolding next
   region_after r s h = next_one later (all_here none) low
     where
-      t : ((is_between all (within done (counted counts flows)) && region_next all (within done (counted counts flows)) r) ≡ true) × (within (done ++ last ∷ []) nothing_shown ≡ s)
+      t : ((is_between all (within done (counted counts flows)) && region_next all (within done (counted counts flows)) r) ≡ true)
+          × (within (done ++ last ∷ []) nothing_shown ≡ s)
       t = taken _ _ s h
 
       b : Both (is_between all (within done last)) (region_next all (within done last) r)
@@ -110,16 +118,19 @@ module _ (all before later : List (List RegionSite)) (had left : List RegionSite
           (subst (λ (ls : List Line). Reads all (within (done ++ last ∷ []) nothing_shown) ls) lines
           (in_region (before ++ had ∷ []) rest [] sites (done ++ last ∷ []) [] [] is (closed_fit none) tt tt tt (inr refl)))
         where
-          lines : line.Head ∷ (regions_lines 1 (before ++ had ∷ []) (done ++ last ∷ []) ++ region_lines (1 + length (before ++ had ∷ [])) [] nothing_shown) ≡ so_far ++ line.Region r ∷ []
+          lines : line.Head ∷ (regions_lines 1 (before ++ had ∷ []) (done ++ last ∷ []) ++ profile_region_lines (1 + length (before ++ had ∷ [])) []
+              nothing_shown) ≡ so_far ++ line.Region r ∷ []
           lines =
-              ap (λ (ls : List Line). line.Head ∷ (ls ++ region_lines (1 + length (before ++ had ∷ [])) [] nothing_shown)) lines_closed
+              ap (λ (ls : List Line). line.Head ∷ (ls ++ profile_region_lines (1 + length (before ++ had ∷ [])) [] nothing_shown)) lines_closed
               ∙ ap (λ (n : ℕ). so_far ++ line.Region n ∷ []) (sym number)
 
-  pub runs_after : (site : SiteId) (c : SiteCount) (s : Reader) → LineFits (line.Runs site c) → next all (within done (counted counts flows)) (line.Runs site c) ≡ Some s → Reads all s (so_far ++ line.Runs site c ∷ [])
+  pub runs_after : (site : SiteId) (c : SiteCount) (s : Reader) → LineFits (line.Runs site c) → next all (within done (counted counts flows)) (line.Runs site c)
+      ≡ Some s → Reads all s (so_far ++ line.Runs site c ∷ [])
   unfolding next
   runs_after site c s fits h = by left refl at
     where
-      t : (counts_at site c (slice_get (last_sites all (within done (counted counts flows))) (length counts)) ≡ true) × (within done (counted (counts ++ c ∷ []) flows) ≡ s)
+      t : (counts_at site c (slice_get (last_sites all (within done (counted counts flows))) (length counts)) ≡ true)
+          × (within done (counted (counts ++ c ∷ []) flows) ≡ s)
       t = taken _ _ s h
 
       at : counts_at site c (slice_get (had ++ left) (length had)) ≡ true
@@ -129,7 +140,8 @@ module _ (all before later : List (List RegionSite)) (had left : List RegionSite
 
       by : (l : List RegionSite) → left ≡ l → counts_at site c (slice_get (had ++ left) (length had)) ≡ true → Reads all s (so_far ++ line.Runs site c ∷ [])
       by [] is e =
-          let gone : counts_at site c (slice_get (had ++ left) (length had)) ≡ false = ap (λ (l : List RegionSite). counts_at site c (slice_get l (length had))) (whole_sites is) ∙ ap (counts_at site c) (past had) in
+          let gone : counts_at site c (slice_get (had ++ left) (length had)) ≡ false = ap (λ (l : List RegionSite). counts_at site c (slice_get l (length had)))
+          (whole_sites is) ∙ ap (counts_at site c) (past had) in
           absurd (cc (sym gone ∙ e))
       by (one ∷ rest) is e =
           subst (λ (q : Reader). Reads all q (so_far ++ line.Runs site c ∷ [])) t.1
@@ -153,50 +165,60 @@ module _ (all before later : List (List RegionSite)) (had left : List RegionSite
             | inr none ↦ none
           ]
 
-          region_more : region_lines (1 + length before) (had ++ one ∷ []) (counted (counts ++ c ∷ []) flows) ≡ region_lines (1 + length before) had (counted counts flows) ++ line.Runs site c ∷ []
+          region_more : profile_region_lines (1 + length before) (had ++ one ∷ []) (counted (counts ++ c ∷ []) flows) ≡ profile_region_lines (1 + length before)
+              had (counted counts flows) ++ line.Runs site c ∷ []
           region_more =
               ap (λ (fs : List Flow). line.Region (1 + length before) ∷ (runs_lines (had ++ one ∷ []) (counts ++ c ∷ []) ++ map line.Flow fs)) no_flows
               ∙ ap (λ (ls : List Line). line.Region (1 + length before) ∷ ls)
-              (append-nil (runs_lines (had ++ one ∷ []) (counts ++ c ∷ [])) ∙ runs_more had (one ∷ []) counts (c ∷ []) counts_fit ∙ ap (λ (i : SiteId). runs_lines had counts ++ line.Runs i c ∷ []) f.same)
+              (append-nil (runs_lines (had ++ one ∷ []) (counts ++ c ∷ [])) ∙ runs_more had (one ∷ []) counts (c ∷ []) counts_fit
+              ∙ ap (λ (i : SiteId). runs_lines had counts ++ line.Runs i c ∷ []) f.same)
               ∙ sym (ap (λ (fs : List Flow). line.Region (1 + length before) ∷ ((runs_lines had counts ++ map line.Flow fs) ++ line.Runs site c ∷ [])) no_flows
               ∙ ap (λ (ls : List Line). line.Region (1 + length before) ∷ (ls ++ line.Runs site c ∷ [])) (append-nil (runs_lines had counts)))
 
-          lines : line.Head ∷ (regions_lines 1 before done ++ region_lines (1 + length before) (had ++ one ∷ []) (counted (counts ++ c ∷ []) flows)) ≡ so_far ++ line.Runs site c ∷ []
+          lines : line.Head ∷ (regions_lines 1 before done ++ profile_region_lines (1 + length before) (had ++ one ∷ []) (counted (counts ++ c ∷ []) flows))
+              ≡ so_far ++ line.Runs site c ∷ []
           lines = ap (λ (ls : List Line). line.Head ∷ (regions_lines 1 before done ++ ls)) region_more ∙ sym (behind (line.Runs site c))
 
-  pub flow_after : (f : Flow) (s : Reader) → LineFits (line.Flow f) → next all (within done (counted counts flows)) (line.Flow f) ≡ Some s → Reads all s (so_far ++ line.Flow f ∷ [])
+  pub flow_after : (f : Flow) (s : Reader) → LineFits (line.Flow f) → next all (within done (counted counts flows)) (line.Flow f) ≡ Some s →
+      Reads all s (so_far ++ line.Flow f ∷ [])
   unfolding next
   flow_after f s fits h =
       subst (λ (q : Reader). Reads all q (so_far ++ line.Flow f ∷ [])) t.1
       (subst (λ (ls : List Line). Reads all (within done (counted counts (flows ++ f ∷ []))) ls) lines
-      (in_region before later had left done counts (flows ++ f ∷ []) all_is done_fit counts_fit (each-append (FlowFits (had ++ left)) flows f flows_fit fit) (ascend_more flows f up e.second) (inl (none_left b.first))))
+      (in_region before later had left done counts (flows ++ f ∷ []) all_is done_fit counts_fit (each-append (FlowFits (had ++ left)) flows f flows_fit fit)
+      (ascend_more flows f up e.second) (inl (none_left b.first))))
     where
-      t : ((is_counted all (within done (counted counts flows)) && flows_next all (within done (counted counts flows)) f) ≡ true) × (within done (counted counts (flows ++ f ∷ [])) ≡ s)
+      t : ((is_counted all (within done (counted counts flows)) && flows_next all (within done (counted counts flows)) f) ≡ true)
+          × (within done (counted counts (flows ++ f ∷ [])) ≡ s)
       t = taken _ _ s h
 
       b : Both (is_counted all (within done last)) (flows_next all (within done last) f)
       b = both _ _ t.0
 
-      d : Both (has_site f.from.0 (last_sites all (within done last))) (has_site f.to.0 (last_sites all (within done last)) && is_behind (last_flow flows) f)
+      d : Both (has_numbered_site f.from.0 (last_sites all (within done last))) (has_numbered_site f.to.0 (last_sites all (within done last)) && is_behind
+          (last_flow flows) f)
       d = both _ _ b.second
 
-      e : Both (has_site f.to.0 (last_sites all (within done last))) (is_behind (last_flow flows) f)
+      e : Both (has_numbered_site f.to.0 (last_sites all (within done last))) (is_behind (last_flow flows) f)
       e = both _ _ d.second
 
       fit : FlowFits (had ++ left) f
       fit = record {
-        from = sym (ap (has_site f.from.0) sites_are) ∙ d.first;
-        to = sym (ap (has_site f.to.0) sites_are) ∙ e.first;
+        from = sym (ap (has_numbered_site f.from.0) sites_are) ∙ d.first;
+        to = sym (ap (has_numbered_site f.to.0) sites_are) ∙ e.first;
         some_shown = fits.2;
         most_shown = fits.3;
       }
 
-      region_more : region_lines (1 + length before) had (counted counts (flows ++ f ∷ [])) ≡ region_lines (1 + length before) had (counted counts flows) ++ line.Flow f ∷ []
+      region_more : profile_region_lines (1 + length before) had (counted counts (flows ++ f ∷ [])) ≡ profile_region_lines (1 + length before) had
+          (counted counts flows) ++ line.Flow f ∷ []
       region_more =
           ap (λ (ls : List Line). line.Region (1 + length before) ∷ ls)
-          (ap (λ (ls : List Line). runs_lines had counts ++ ls) (map-append line.Flow flows (f ∷ [])) ∙ sym (append_assoc (runs_lines had counts) (map line.Flow flows) (line.Flow f ∷ [])))
+          (ap (λ (ls : List Line). runs_lines had counts ++ ls) (map-append line.Flow flows (f ∷ []))
+          ∙ sym (append_assoc (runs_lines had counts) (map line.Flow flows) (line.Flow f ∷ [])))
 
-      lines : line.Head ∷ (regions_lines 1 before done ++ region_lines (1 + length before) had (counted counts (flows ++ f ∷ []))) ≡ so_far ++ line.Flow f ∷ []
+      lines : line.Head ∷ (regions_lines 1 before done ++ profile_region_lines (1 + length before) had (counted counts (flows ++ f ∷ [])))
+          ≡ so_far ++ line.Flow f ∷ []
       lines = ap (λ (ls : List Line). line.Head ∷ (regions_lines 1 before done ++ ls)) region_more ∙ sym (behind (line.Flow f))
 
   pub end_after : (s : Reader) → next all (within done (counted counts flows)) line.End ≡ Some s → Reads all s (so_far ++ line.End ∷ [])
@@ -226,4 +248,5 @@ module _ (all before later : List (List RegionSite)) (had left : List RegionSite
       fit = subst (λ (l : List (List RegionSite)). RegionsFit l (done ++ last ∷ [])) (sym all_ends) (closed_fit none)
 
       lines : line.Head ∷ (regions_lines 1 all (done ++ last ∷ []) ++ line.End ∷ []) ≡ so_far ++ line.End ∷ []
-      lines = ap (λ (l : List (List RegionSite)). line.Head ∷ (regions_lines 1 l (done ++ last ∷ []) ++ line.End ∷ [])) all_ends ∙ ap (λ (ls : List Line). line.Head ∷ (ls ++ line.End ∷ [])) lines_closed
+      lines = ap (λ (l : List (List RegionSite)). line.Head ∷ (regions_lines 1 l (done ++ last ∷ []) ++ line.End ∷ [])) all_ends
+          ∙ ap (λ (ls : List Line). line.Head ∷ (ls ++ line.End ∷ [])) lines_closed

@@ -14,8 +14,8 @@ use Rattle.dp_profile_text.specs.declared.reader.Phase.{Phase}
 use Rattle.dp_profile_text.specs.declared.reader.Phase.TheVariants as phase
 use Rattle.dp_profile.specs.declared.sites.RegionSite.{RegionSite}
 use Rattle.dp_profile.specs.Sites.{regions}
-use Rattle.dp_profile_text.specs.ProfileText.{ProfileLines, line_bytes, profile_lines, words_of}
-use Rattle.dp_profile_text.specs.Refused.{IsProfileText, ReadsAs}
+use Rattle.dp_profile_text.specs.ProfileText.{ProfileLines, profile_line_bytes, profile_lines, profile_words}
+use Rattle.dp_profile_text.specs.Refused.{IsProfileText, ReadsAsProfile}
 use Rattle.dp_profile_text.specs.steps.Ending.{finished}
 use Rattle.dp_profile_text.specs.steps.LineWords.{line_of}
 use Rattle.dp_profile_text.specs.steps.Reading.{begun, is_over, next_by}
@@ -35,7 +35,7 @@ no_line all s = refl
 -- the lines of a profile of regions with these sites
 abbrev pub profile_grammar : List (List RegionSite) → Grammar Line Reader
 profile_grammar all = record {
-  words_of = words_of;
+  words_of = profile_words;
   Fits = LineFits;
   line_of = line_of;
   are_words = are_words;
@@ -57,7 +57,8 @@ over_phase phase.Over h = refl
 
 module _ (p : Program) (few : length (regions p) ≤ top) (small : Each (Each SmallSite) (regions p)) where
   -- the lines of a text of the grammar are read to their end
-  pub text_runs : (lines : List (List ℕ)) (profile : Profile) → ProfileLines p lines profile → run_bytes (profile_grammar (regions p)) (Some begun) lines ≡ Some (over profile.regions)
+  pub text_runs : (lines : List (List ℕ)) (profile : Profile) → ProfileLines p lines profile → run_bytes (profile_grammar (regions p)) (Some begun) lines ≡ Some
+      (over profile.regions)
   unfolding next_by
   text_runs lines profile t =
       let g = profile_grammar (regions p) in
@@ -65,10 +66,10 @@ module _ (p : Program) (few : length (regions p) ≤ top) (small : Each (Each Sm
       ∙ run_bytes-lines g (Some begun) (profile_lines p profile) (whole_fits (regions p) profile.regions few small t.fits)
       ∙ lines_run (regions p) profile.regions t.fits
 
-  reads_on : (s : Reader) (ls : List Line) → Reads (regions p) s ls → (more : List Line) × IsProfileText p (map line_bytes (ls ++ more))
+  reads_on : (s : Reader) (ls : List Line) → Reads (regions p) s ls → (more : List Line) × IsProfileText p (map profile_line_bytes (ls ++ more))
   reads_on s ls r =
       let e : Ends (regions p) ls = reads_end (regions p) s ls r in
-      (e.more, (record { regions = e.shown }, record { lines_are = ap (map line_bytes) e.whole; fits = e.fit }))
+      (e.more, (record { regions = e.shown }, record { lines_are = ap (map profile_line_bytes) e.whole; fits = e.fit }))
 
   profile_texts : Texts (profile_grammar (regions p)) (IsProfileText p) (λ s. is_over s.phase)
   profile_texts = record {
@@ -76,12 +77,14 @@ module _ (p : Program) (few : length (regions p) ≤ top) (small : Each (Each Sm
     reads_on = reads_on;
   }
 
-  ended : (bytes : List ℕ) (r : Reading Reader) → AreRead profile_texts (lines_of bytes) r → ReadsAs p bytes (finished r)
+  ended : (bytes : List ℕ) (r : Reading Reader) → AreRead profile_texts (lines_of bytes) r → ReadsAsProfile p bytes (finished r)
   ended bytes (reading.Over s) e =
       let t : IsText (regions p) s.done e.0.lines = reads_over (regions p) s e.0.lines e.0.reads (over_phase s.phase e.1) in
-      record { lines_are = e.0.are ∙ ap (map line_bytes) t.are; fits = t.fit }
+      record { lines_are = e.0.are ∙ ap (map profile_line_bytes) t.are; fits = t.fit }
   ended bytes (reading.Refused line) e = e
 
   -- what a text is read as, line by line
-  pub text_read : (bytes : List ℕ) → ReadsAs p bytes (finished (read_from (next_text (profile_grammar (regions p))) (λ s. is_over s.phase) 1 begun (lines_of bytes)))
-  text_read bytes = ended bytes (read_from (next_text (profile_grammar (regions p))) (λ s. is_over s.phase) 1 begun (lines_of bytes)) (are_read profile_texts bytes)
+  pub text_read : (bytes : List ℕ) →
+      ReadsAsProfile p bytes (finished (read_from (next_text (profile_grammar (regions p))) (λ s. is_over s.phase) 1 begun (lines_of bytes)))
+  text_read bytes = ended bytes (read_from (next_text (profile_grammar (regions p))) (λ s. is_over s.phase) 1 begun (lines_of bytes))
+      (are_read profile_texts bytes)

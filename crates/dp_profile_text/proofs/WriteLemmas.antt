@@ -12,63 +12,70 @@ use Rattle.dp_profile.specs.declared.Flow.{Flow}
 use Rattle.dp_profile_text.specs.declared.line.Line.TheVariants as line
 use Rattle.dp_profile.specs.declared.sites.RegionSite.{RegionSite}
 use Rattle.dp_profile.specs.Sites.{regions}
-use Rattle.dp_profile_text.specs.ProfileText.{kind_word, line_bytes, runs_lines, region_lines, regions_lines}
-use Rattle.dp_profile_text.specs.WrittenText.{profile_text, line_text, runs_text, flows_text, region_text, regions_text}
+use Rattle.dp_profile_text.specs.ProfileText.{flow_word, profile_line_bytes, runs_lines, profile_region_lines, regions_lines}
+use Rattle.dp_profile_text.specs.WrittenText.{profile_text, profile_line_text, runs_text, flows_text, profile_region_text, regions_text}
 
 -- two numbers, a word and a number
-pub flow_grew : (out one two three four five six word : List ℕ) (n m k : ℕ) → one ≡ out ++ labelled (codes "flow ") n → two ≡ one ++ labelled (codes " ") m → three ≡ two ++ 32 ∷ [] → four ≡ three ++ word
+pub flow_grew : (out one two three four five six word : List ℕ) (n m k : ℕ) → one ≡ out ++ labelled (codes "flow ") n → two ≡ one ++ labelled (codes " ") m →
+    three ≡ two ++ 32 ∷ [] → four ≡ three ++ word
     → five ≡ four ++ labelled (codes " ") k → six ≡ five ++ 10 ∷ []
     → six ≡ out ++ (codes "flow " ++ (decimal n ++ (codes " " ++ (decimal m ++ (codes " " ++ (word ++ (codes " " ++ (decimal k ++ 10 ∷ []))))))))
 unfolding labelled
 flow_grew out one two three four five six word n m k p q r s t u = u ∙ rw (t, s, r, q, p) (simp append_assoc)
 
-pub region_line : (r : ℕ) → codes "region " ++ (decimal r ++ 10 ∷ []) ≡ line_text (line.Region r)
-unfolding line_text
+pub region_line : (r : ℕ) → codes "region " ++ (decimal r ++ 10 ∷ []) ≡ profile_line_text (line.Region r)
+unfolding profile_line_text
 region_line r = refl
 
-pub runs_line : (site : SiteId) (c : SiteCount) → codes "runs " ++ (decimal site.0 ++ (codes " " ++ (decimal c.runs ++ (codes " " ++ (decimal c.nonzero ++ 10 ∷ []))))) ≡ line_text (line.Runs site c)
-unfolding line_text
+pub runs_line : (site : SiteId) (c : SiteCount) →
+    codes "runs " ++ (decimal site.0 ++ (codes " " ++ (decimal c.runs ++ (codes " " ++ (decimal c.nonzero ++ 10 ∷ []))))) ≡ profile_line_text (line.Runs site c)
+unfolding profile_line_text
 runs_line site c = simp append_assoc
 
-pub flow_line : (f : Flow) → codes "flow " ++ (decimal f.from.0 ++ (codes " " ++ (decimal f.to.0 ++ (codes " " ++ (kind_word f.carried ++ (codes " " ++ (decimal f.shown ++ 10 ∷ []))))))) ≡ line_text (line.Flow f)
-unfolding line_text
+pub flow_line : (f : Flow) →
+    codes "flow " ++ (decimal f.from.0
+    ++ (codes " " ++ (decimal f.to.0 ++ (codes " " ++ (flow_word f.carried ++ (codes " " ++ (decimal f.shown ++ 10 ∷ []))))))) ≡ profile_line_text (line.Flow f)
+unfolding profile_line_text
 flow_line f = simp append_assoc
 
 -- ---- the lines of a region
 
-runs_are : (sites : List RegionSite) (counts : List SiteCount) → runs_text sites counts ≡ flat_map line_bytes (runs_lines sites counts)
-unfolding line_text
+runs_are : (sites : List RegionSite) (counts : List SiteCount) → runs_text sites counts ≡ flat_map profile_line_bytes (runs_lines sites counts)
+unfolding profile_line_text
 runs_are [] counts = refl
 runs_are (s ∷ sites) [] = refl
-runs_are (s ∷ sites) (c ∷ counts) = ap (λ (l : List ℕ). line_bytes (line.Runs s.site c) ++ l) (runs_are sites counts)
+runs_are (s ∷ sites) (c ∷ counts) = ap (λ (l : List ℕ). profile_line_bytes (line.Runs s.site c) ++ l) (runs_are sites counts)
 
-flows_are : (flows : List Flow) → flows_text flows ≡ flat_map line_bytes (map line.Flow flows)
-unfolding line_text
+flows_are : (flows : List Flow) → flows_text flows ≡ flat_map profile_line_bytes (map line.Flow flows)
+unfolding profile_line_text
 flows_are [] = refl
-flows_are (f ∷ rest) = ap (λ (l : List ℕ). line_bytes (line.Flow f) ++ l) (flows_are rest)
+flows_are (f ∷ rest) = ap (λ (l : List ℕ). profile_line_bytes (line.Flow f) ++ l) (flows_are rest)
 
-pub region_parts : (r : ℕ) (sites : List RegionSite) (shown : RegionProfile) → line_text (line.Region r) ++ (runs_text sites shown.sites ++ flows_text shown.flows) ≡ region_text r sites shown
-unfolding region_text line_text
+pub region_parts : (r : ℕ) (sites : List RegionSite) (shown : RegionProfile) → profile_line_text (line.Region r)
+    ++ (runs_text sites shown.sites ++ flows_text shown.flows) ≡ profile_region_text r sites shown
+unfolding profile_region_text profile_line_text
 region_parts r sites shown =
-    ap (λ (l : List ℕ). line_bytes (line.Region r) ++ l)
+    ap (λ (l : List ℕ). profile_line_bytes (line.Region r) ++ l)
     (ap (λ (l : List ℕ). l ++ flows_text shown.flows) (runs_are sites shown.sites)
-    ∙ ap (λ (l : List ℕ). flat_map line_bytes (runs_lines sites shown.sites) ++ l) (flows_are shown.flows)
-    ∙ sym (flat_map-append line_bytes (runs_lines sites shown.sites) (map line.Flow shown.flows)))
+    ∙ ap (λ (l : List ℕ). flat_map profile_line_bytes (runs_lines sites shown.sites) ++ l) (flows_are shown.flows)
+    ∙ sym (flat_map-append profile_line_bytes (runs_lines sites shown.sites) (map line.Flow shown.flows)))
 
 -- ---- the text of all regions
 
-texts_are : (r : ℕ) (all : List (List RegionSite)) (shown : List RegionProfile) → regions_text r all shown ≡ flat_map line_bytes (regions_lines r all shown)
-unfolding region_text
+texts_are : (r : ℕ) (all : List (List RegionSite)) (shown : List RegionProfile) → regions_text r all shown ≡ flat_map profile_line_bytes
+    (regions_lines r all shown)
+unfolding profile_region_text
 texts_are r [] shown = refl
 texts_are r (sites ∷ later) [] = refl
 texts_are r (sites ∷ later) (shown ∷ rest) =
-    ap (λ (l : List ℕ). flat_map line_bytes (region_lines r sites shown) ++ l) (texts_are (r + 1) later rest)
-    ∙ sym (flat_map-append line_bytes (region_lines r sites shown) (regions_lines (r + 1) later rest))
+    ap (λ (l : List ℕ). flat_map profile_line_bytes (profile_region_lines r sites shown) ++ l) (texts_are (r + 1) later rest)
+    ∙ sym (flat_map-append profile_line_bytes (profile_region_lines r sites shown) (regions_lines (r + 1) later rest))
 
-pub text_parts : (p : Program) (profile : Profile) → codes "profile 1\n" ++ (regions_text 1 (regions p) profile.regions ++ codes "end\n") ≡ profile_text p profile
+pub text_parts : (p : Program) (profile : Profile) → codes "profile 1\n" ++ (regions_text 1 (regions p) profile.regions ++ codes "end\n")
+    ≡ profile_text p profile
 text_parts p profile =
     ap (λ (l : List ℕ). codes "profile 1\n" ++ (l ++ codes "end\n")) (texts_are 1 (regions p) profile.regions)
-    ∙ ap (λ (l : List ℕ). codes "profile 1\n" ++ l) (sym (flat_map-append line_bytes (regions_lines 1 (regions p) profile.regions) (line.End ∷ [])))
+    ∙ ap (λ (l : List ℕ). codes "profile 1\n" ++ l) (sym (flat_map-append profile_line_bytes (regions_lines 1 (regions p) profile.regions) (line.End ∷ [])))
 
 -- ---- where one of two lists ends
 

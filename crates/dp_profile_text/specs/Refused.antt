@@ -13,15 +13,15 @@ abbrev pub IsProfileText : Program → List (List ℕ) → Type 0
 IsProfileText p lines = (profile : Profile) × ProfileLines p lines profile
 
 -- the text isn't in the grammar, from this line on
-abbrev pub IsRefused : Program → List ℕ → ℕ → Type 0
-IsRefused p bytes line = IsRefusedAt (IsProfileText p) (lines_of bytes) line
+abbrev pub IsRefusedProfile : Program → List ℕ → ℕ → Type 0
+IsRefusedProfile p bytes line = IsRefusedAt (IsProfileText p) (lines_of bytes) line
 
 -- what a text is read as; want of memory may come at any place
-abbrev pub ReadsAs : Program → List ℕ → Result Profile ProfileFail → Type 0
-ReadsAs p bytes (Ok profile) = ProfileText p bytes profile
-ReadsAs p bytes (Err (Refused line)) = IsRefused p bytes line
-ReadsAs p bytes (Err NoMemory) = Unit {0}
+abbrev pub ReadsAsProfile : Program → List ℕ → Result Profile ProfileFail → Type 0
+ReadsAsProfile p bytes (Ok profile) = ProfileText p bytes profile
+ReadsAsProfile p bytes (Err (Refused line)) = IsRefusedProfile p bytes line
+ReadsAsProfile p bytes (Err NoMemory) = Unit {0}
 
 -- reading the text gives this profile and nothing else, unless memory is wanting
-abbrev pub ReadsOnly : Program → List ℕ → Profile → Type 0
-ReadsOnly p bytes profile = (result : Result Profile ProfileFail) → ReadsAs p bytes result → (result ≡ Ok profile) ⊎ (result ≡ Err NoMemory)
+abbrev pub ReadsOnlyProfile : Program → List ℕ → Profile → Type 0
+ReadsOnlyProfile p bytes profile = (result : Result Profile ProfileFail) → ReadsAsProfile p bytes result → (result ≡ Ok profile) ⊎ (result ≡ Err NoMemory)

@@ -5,7 +5,7 @@ ghost use Rattle.dp_tree.specs.Inlined.{IsInlined};
 ghost use Rattle.dp_profile.specs.declared.Profile.{Profile as profile_of_regions};
 ghost use Rattle.dp_profile.specs.ProfileFits.{ProfileFits};
 ghost use Rattle.dp_profile_text.specs.ProfileText.{ProfileText};
-ghost use Rattle.dp_profile_text.specs.Refused.{ReadsOnly};
+ghost use Rattle.dp_profile_text.specs.Refused.{ReadsOnlyProfile};
 ghost use Rattle.dp_profile_text.specs.WrittenText.{profile_text};
 
 use dp_tree::Program;
@@ -15,7 +15,7 @@ use dp_tree::Program;
 pub fn written_profiles_are_read(p: &Program)
     requires inlined { IsInlined p.now }
     ensures text { (profile : profile_of_regions) → ProfileFits p.now profile → ProfileText p.now (profile_text p.now profile) profile }
-    ensures alone { (profile : profile_of_regions) → ProfileFits p.now profile → ReadsOnly p.now (profile_text p.now profile) profile }
+    ensures alone { (profile : profile_of_regions) → ProfileFits p.now profile → ReadsOnlyProfile p.now (profile_text p.now profile) profile }
 {}
 
 /// The profile that a text is read as fits the program, so what is written of it is read back.

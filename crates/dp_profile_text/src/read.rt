@@ -3,7 +3,7 @@
 ghost use Rattle.std.specs.Prelude.{◌≡◌};
 ghost use Rattle.dp_text.specs.Words.{words};
 ghost use Rattle.dp_tree.specs.Inlined.{IsInlined};
-ghost use Rattle.dp_profile_text.specs.Refused.{ReadsAs};
+ghost use Rattle.dp_profile_text.specs.Refused.{ReadsAsProfile};
 ghost use Rattle.dp_profile_text.specs.steps.Ending.{finished as profile_of};
 ghost use Rattle.dp_profile_text.specs.steps.LineWords.{line_of};
 ghost use Rattle.dp_profile_text.specs.steps.Reading.{is_over, next_by};
@@ -53,7 +53,7 @@ fn finished(reading: Reading<Reader>) -> Result<Profile, ProfileFail>
 /// The profile of a text, or the line at which it is refused.
 pub fn read_profile(alloc: Global, text: &[u8], p: &Program) -> Result<Profile, ProfileFail>
     requires inlined { IsInlined p.now }
-    ensures { ReadsAs p.now text.now result }
+    ensures { ReadsAsProfile p.now text.now result }
 {
     let all = regions_of(alloc, p)?;
     let grammar = ProfileGrammar {

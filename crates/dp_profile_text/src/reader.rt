@@ -42,7 +42,7 @@ fn opened(alloc: Global) -> RegionProfile
 
 /// One of the sites has this number.
 fn has_site(site: SiteId, sites: &[RegionSite]) -> bool
-    ensures { result ≡ region.has_site site.0 sites.now }
+    ensures { result ≡ region.has_numbered_site site.0 sites.now }
 {
     sites.iter().any(|s| s.site.0 == site.0)
 }

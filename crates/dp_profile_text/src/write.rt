@@ -43,7 +43,7 @@ fn put_region(
     sites: &[RegionSite],
     shown: &RegionProfile,
 ) -> Result<(), NoMemory>
-    ensures { OnOk result (out.new ≡ out.old ++ text.region_text number sites.now shown.now) }
+    ensures { OnOk result (out.new ≡ out.old ++ text.profile_region_text number sites.now shown.now) }
 {
     put_head(out, number)?;
     put_counts(out, sites, shown.sites.as_slice())?;
@@ -52,7 +52,7 @@ fn put_region(
 }
 
 fn put_head(out: &mut Row<u8>, number: u64) -> Result<(), NoMemory>
-    ensures { OnOk result (out.new ≡ out.old ++ text.line_text (line.Region number)) }
+    ensures { OnOk result (out.new ≡ out.old ++ text.profile_line_text (line.Region number)) }
 {
     put_labelled(out, b"region ", number)?;
     out.push(b'\n')
@@ -74,7 +74,7 @@ pub fn put_counts(
 }
 
 fn put_count(out: &mut Row<u8>, site: SiteId, count: SiteCount) -> Result<(), NoMemory>
-    ensures { OnOk result (out.new ≡ out.old ++ text.line_text (line.Runs site count)) }
+    ensures { OnOk result (out.new ≡ out.old ++ text.profile_line_text (line.Runs site count)) }
 {
     put_labelled(out, b"runs ", u64::from(site.0))?;
     put_labelled(out, b" ", count.runs)?;
@@ -94,7 +94,7 @@ pub fn put_flows(out: &mut Row<u8>, flows: &[Flow]) -> Result<(), NoMemory>
 }
 
 fn put_flow(out: &mut Row<u8>, flow: Flow) -> Result<(), NoMemory>
-    ensures { OnOk result (out.new ≡ out.old ++ text.line_text (line.Flow flow)) }
+    ensures { OnOk result (out.new ≡ out.old ++ text.profile_line_text (line.Flow flow)) }
 {
     put_labelled(out, b"flow ", u64::from(flow.from.0))?;
     put_labelled(out, b" ", u64::from(flow.to.0))?;
@@ -105,7 +105,7 @@ fn put_flow(out: &mut Row<u8>, flow: Flow) -> Result<(), NoMemory>
 }
 
 fn kind_word(carried: bool) -> &'static [u8]
-    ensures { result.now ≡ profile_text.kind_word carried }
+    ensures { result.now ≡ profile_text.flow_word carried }
 {
     if carried { b"carried" } else { b"intra" }
 }

@@ -3,7 +3,8 @@ use Rattle.std.specs.Prelude.{ℕ, List, ◌++◌, codes, decimal}
 use Rattle.dp_base.specs.declared.End.{End}
 use Rattle.dp_base.specs.declared.End.TheVariants.{Done, Fault, Fuel}
 use Rattle.dp_base.specs.declared.Quantity.{Quantity}
-use Rattle.dp_base.specs.declared.Quantity.TheVariants.{ProgramBytes, Nesting, Operators, ElseIf, Functions, Cells, InlinedSize, RegionSites, InputBytes, InputWords, PlanBytes, ProfileBytes, LogBytes, CheckpointBytes, ListBytes}
+use Rattle.dp_base.specs.declared.Quantity.TheVariants.{ProgramBytes, Nesting, Operators, ElseIf, Functions, Cells, InlinedSize, RegionSites, InputBytes}
+use Rattle.dp_base.specs.declared.Quantity.TheVariants.{InputWords, PlanBytes, ProfileBytes, LogBytes, CheckpointBytes, ListBytes}
 use Rattle.dp_words.specs.Run as source
 use Rattle.dp_words.specs.Run.{Source, Least}
 use Rattle.dp_refusal.specs.declared.role.Role.{Role}
@@ -11,7 +12,8 @@ use Rattle.dp_refusal.specs.declared.role.Role.TheVariants as role
 use Rattle.dp_refusal.specs.declared.offence.Offence.{Offence}
 use Rattle.dp_refusal.specs.declared.offence.Offence.TheVariants.{Unknown, Twice, NotArray, NotScalar, Arguments, ReadOnly}
 use Rattle.dp_refusal.specs.declared.refusal.Refusal.{Refusal}
-use Rattle.dp_refusal.specs.declared.refusal.Refusal.TheVariants.{Words, Byte, Syntax, Name, InputWord, ListLine, BatchWord, PlanLine, PlanRule, ProfileLine, CheckpointLine, Limit}
+use Rattle.dp_refusal.specs.declared.refusal.Refusal.TheVariants.{Words, Byte, Syntax, Name, InputWord, ListLine, BatchWord, PlanLine, PlanRule, ProfileLine}
+use Rattle.dp_refusal.specs.declared.refusal.Refusal.TheVariants.{CheckpointLine, Limit}
 
 -- a limit's name in messages
 abbrev pub quantity_name : Quantity → List ℕ
@@ -55,9 +57,9 @@ abbrev pub failed_read_line : Role → List ℕ
 failed_read_line r = codes "failed read " ++ (role_name r ++ codes "\n")
 
 -- what the text is for that plans rest on
-abbrev pub role_of : Source → Role
-role_of (source.Named name) = role.Plan
-role_of (Least profile) = role.Profile
+abbrev pub plans_role : Source → Role
+plans_role (source.Named name) = role.Plan
+plans_role (Least profile) = role.Profile
 
 -- the lines that say by one number, and by two, where a text is refused
 abbrev pub refused_at : List ℕ → ℕ → List ℕ
@@ -105,7 +107,7 @@ refusal_status (CheckpointLine line) = 4
 refusal_status (Limit quantity count) = 9
 
 -- the exit status of a run
-abbrev pub status_of : End → ℕ
-status_of Done = 0
-status_of (Fault fault) = 1
-status_of Fuel = 8
+abbrev pub exit_status : End → ℕ
+exit_status Done = 0
+exit_status (Fault fault) = 1
+exit_status Fuel = 8

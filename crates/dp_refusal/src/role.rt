@@ -1,7 +1,7 @@
 //! What a text is for that the words name.
 ghost use Rattle.std.specs.Prelude.{◌≡◌, IfOk, string_bytes};
 ghost use Rattle.dp_words.specs.Run.{shown_source};
-ghost use Rattle.dp_refusal.specs.Refusal.{role_of as plans_role};
+ghost use Rattle.dp_refusal.specs.Refusal.{plans_role as plans_role};
 
 use dp_base::NoMemory;
 use dp_words::PlanSource;

@@ -5,14 +5,16 @@ use Rattle.dp_relay.specs.declared.stage.Made.{Made}
 use Rattle.dp_relay.specs.declared.polled.Polled.{Polled}
 use Rattle.dp_relay.specs.declared.polled.Polled.TheVariants.{Moved, Idle, Ended}
 use Rattle.dp_relay.specs.Facts.{Facts, Stays, RefusesTake, RefusesSend}
-use Rattle.dp_relay.specs.Places.{behind}
+use Rattle.dp_relay.specs.Places.{place_behind}
 
-module _ {E O : Type 0} (ready : E → UnitsKey → ℕ → Option ℕ → Type 0) (holds : E → UnitsKey → ℕ → Option ℕ → ℕ → Type 0) (taking sending : E → Facts) (ended : E → Bool)
+module _ {E O : Type 0} (ready : E → UnitsKey → ℕ → Option ℕ → Type 0) (holds : E → UnitsKey → ℕ → Option ℕ → ℕ → Type 0)
+    (taking sending : E → Facts) (ended : E → Bool)
     (is_sent : UnitsKey → ℕ → ℕ → O → Type 0) (is_last : UnitsKey → O → Bool) (made : Made O) (old new : E) (last after : Bool) (held : Option (Made O)) where
   -- the item was sent, and nothing is held; or it wasn't, and is held
   abbrev pub Offers : Polled → Type 0
   Offers Moved =
-      ((key : UnitsKey) (s : ℕ) (place : Option ℕ) (n : ℕ) → holds old key s place n → is_sent key s n made.item → ready new key s (behind place n) × (ended new ≡ is_last key made.item))
+      ((key : UnitsKey) (s : ℕ) (place : Option ℕ) (n : ℕ) → holds old key s place n → is_sent key s n made.item → ready new key s (place_behind place n)
+      × (ended new ≡ is_last key made.item))
       × Stays (taking old) (taking new) × ((sending new).count ≡ (sending old).count + 1) × (after ≡ made.last) × (held ≡ None)
   Offers (Idle why) =
       ((key : UnitsKey) (s : ℕ) (place : Option ℕ) (n : ℕ) → holds old key s place n → holds new key s place n)

@@ -7,6 +7,6 @@ At (Some next) n = n ≡ next
 At None n = Unit {0}
 
 -- .. after the one at place n
-abbrev pub behind : Option ℕ → ℕ → Option ℕ
-behind (Some next) n = Some (n + 1)
-behind None n = None
+abbrev pub place_behind : Option ℕ → ℕ → Option ℕ
+place_behind (Some next) n = Some (n + 1)
+place_behind None n = None

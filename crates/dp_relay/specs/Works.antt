@@ -3,9 +3,10 @@ use Rattle.std.specs.Prelude.{◌≡◌, ℕ, ◌+◌, Bool, false, Option, Some
 use Rattle.dp_relay.specs.UnitsKey.{UnitsKey}
 use Rattle.dp_relay.specs.declared.stage.Made.{Made}
 use Rattle.dp_relay.specs.Facts.{Facts}
-use Rattle.dp_relay.specs.Places.{behind}
+use Rattle.dp_relay.specs.Places.{place_behind}
 
-module _ {E S O : Type 0} (ready : E → UnitsKey → ℕ → Option ℕ → Type 0) (holds : E → UnitsKey → ℕ → Option ℕ → ℕ → Type 0) (taking sending : E → Facts) (ended : E → Bool)
+module _ {E S O : Type 0} (ready : E → UnitsKey → ℕ → Option ℕ → Type 0) (holds : E → UnitsKey → ℕ → Option ℕ → ℕ → Type 0)
+    (taking sending : E → Facts) (ended : E → Bool)
     (stands : S → UnitsKey → ℕ → Option ℕ → Type 0) (is_sent : UnitsKey → ℕ → ℕ → O → Type 0) (is_last : UnitsKey → O → Bool) where
   -- an item was taken. What was made of it is to be sent, and the stage goes on unless this is an ending one
   pub record HasMade (stage : S) (ends : E) (made : Made O) : Type 0 where
@@ -16,7 +17,7 @@ module _ {E S O : Type 0} (ready : E → UnitsKey → ℕ → Option ℕ → Typ
     pub held : holds ends key number place at
     pub item : is_sent key number at made.item
     pub last : made.last ≡ is_last key made.item
-    pub stands_on : made.last ≡ false → stands stage key number (behind place at)
+    pub stands_on : made.last ≡ false → stands stage key number (place_behind place at)
     pub mark : ended ends ≡ false
     pub counts : (taking ends).count ≡ (sending ends).count + 1
 

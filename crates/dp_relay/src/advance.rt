@@ -22,7 +22,8 @@ fn next<I: Item, O: Item, E: Ends<I, O>, S: Stage<I, O>, R: Wait, G: Gate>(
 ) -> Result<Made<O>, IdleWhy>
     requires { IsAtWork E.ready E.holds E.taking E.sending E.ended S.stands O.is_sent O.is_last stage.old ends.old false held.old }
     ensures made { IfOk result (λ made. HasMade E.ready E.holds E.taking E.sending E.ended S.stands O.is_sent O.is_last stage.new ends.new made) }
-    ensures idle { IfErr result (λ why. HasSentAll E.ready E.holds E.taking E.sending E.ended S.stands O.is_sent O.is_last stage.new ends.new false × RefusesTake why (E.taking ends.old) (E.taking ends.new)) }
+    ensures idle { IfErr result (λ why. HasSentAll E.ready E.holds E.taking E.sending E.ended S.stands O.is_sent O.is_last stage.new ends.new false
+        × RefusesTake why (E.taking ends.old) (E.taking ends.new)) }
     ensures sending { Stays (E.sending ends.old) (E.sending ends.new) }
     ensures held { held.new ≡ None }
 {

@@ -1,7 +1,7 @@
 //! Where a unit takes items, and where it sends them.
 ghost use Rattle.std.specs.Prelude.{◌≡◌, ◌-◌, ℕ, Bool, Option, IfOk, IfErr, OnOk, OnErr};
 ghost use Rattle.dp_relay.specs.UnitsKey.{UnitsKey};
-ghost use Rattle.dp_relay.specs.Places.{At, behind};
+ghost use Rattle.dp_relay.specs.Places.{At, place_behind};
 ghost use Rattle.dp_relay.specs.Facts.{Facts, Stays, Takes, Sends};
 
 use crate::item::Item;
@@ -42,7 +42,7 @@ pub trait Ends<I: Item, O: Item>: Drop {
     fn send<R: Wait>(&mut self, rt: &R, item: O) -> Result<(), Refused<O>>
         requires { (key : UnitsKey) × (s : ℕ) × (place : Option ℕ) × (n : ℕ) × holds self.old key s place n × O.is_sent key s n item }
         ensures sent { OnOk result ((key : UnitsKey) (s : ℕ) (place : Option ℕ) (n : ℕ) → holds self.old key s place n → O.is_sent key s n item →
-            ready self.new key s (behind place n) × (ended self.new ≡ O.is_last key item)) }
+            ready self.new key s (place_behind place n) × (ended self.new ≡ O.is_last key item)) }
         ensures held { OnErr result ((key : UnitsKey) (s : ℕ) (place : Option ℕ) (n : ℕ) → holds self.old key s place n → holds self.new key s place n) }
         ensures back { IfErr result (λ refused. refused.item ≡ item) }
         ensures ended { OnErr result (ended self.new ≡ ended self.old) }

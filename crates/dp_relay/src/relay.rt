@@ -52,7 +52,8 @@ impl<I: Item, O: Item, E: Ends<I, O>, S: Stage<I, O>> Model for Relay<I, O, E, S
 
     ghost view = { λ s. counts_of (E.taking s.ends) (E.sending s.ends) (E.ended s.ends) s.seat };
 
-    ghost invariant = { λ s. IsAtWork E.ready E.holds E.taking E.sending E.ended S.stands O.is_sent O.is_last s.stage s.ends s.ended s.held × (s.seat.seen ≡ s.stopped) };
+    ghost invariant = { λ s. IsAtWork E.ready E.holds E.taking E.sending E.ended S.stands O.is_sent O.is_last s.stage s.ends s.ended s.held
+        × (s.seat.seen ≡ s.stopped) };
 }
 
 impl<I: Item, O: Item, E: Ends<I, O>, S: Stage<I, O>> Relay<I, O, E, S> {

@@ -1,7 +1,7 @@
 //! What a unit does with each item.
 ghost use Rattle.std.specs.Prelude.{◌≡◌, ◌-◌, ℕ, false, Option};
 ghost use Rattle.dp_relay.specs.UnitsKey.{UnitsKey};
-ghost use Rattle.dp_relay.specs.Places.{At, behind};
+ghost use Rattle.dp_relay.specs.Places.{At, place_behind};
 
 use crate::item::Item;
 use dp_edge::Gate;
@@ -21,5 +21,5 @@ pub trait Stage<I: Item, O: Item>: Drop {
     /// Of what the stage before sends at a place it makes what it sends there itself.
     fn run<G: Gate>(&mut self, gate: &G, item: I) -> Made<O>
         ensures { (key : UnitsKey) (s : ℕ) (place : Option ℕ) (n : ℕ) → stands self.old key s place → At place n → I.is_sent key (s - 1) n item →
-            O.is_sent key s n result.item × (result.last ≡ O.is_last key result.item) × (result.last ≡ false → stands self.new key s (behind place n)) };
+            O.is_sent key s n result.item × (result.last ≡ O.is_last key result.item) × (result.last ≡ false → stands self.new key s (place_behind place n)) };
 }

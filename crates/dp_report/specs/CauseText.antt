@@ -9,7 +9,8 @@ use Rattle.dp_report.specs.Faults.{fault_words}
 -- a cause in words
 unfoldable pub cause_words : Cause → List ℕ
 cause_words (Load site cell seen source) =
-    labelled (codes " load site ") site.0 ++ labelled (codes " cell ") cell.0 ++ labelled_signed (codes " seen ") seen ++ labelled_signed (codes " source ") source
+    labelled (codes " load site ") site.0 ++ labelled (codes " cell ") cell.0 ++ labelled_signed (codes " seen ") seen
+    ++ labelled_signed (codes " source ") source
 cause_words (Assumed site) = labelled (codes " assume site ") site.0
 cause_words (Words stage site) = labelled (codes " words stage ") stage ++ labelled (codes " site ") site.0
 cause_words (Fault fault) = fault_words fault

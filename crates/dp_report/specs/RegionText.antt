@@ -7,13 +7,13 @@ use Rattle.dp_report.specs.Lines.{line}
 use Rattle.dp_report.specs.CauseText.{causes_bytes}
 
 -- a colon and the numbers, where there are any
-unfoldable pub listed : ℕ → List ℕ → List ℕ
-listed count numbers = if count == 0 then [] else (codes ":" ++ spaced numbers)
+unfoldable pub numbers_listed : ℕ → List ℕ → List ℕ
+numbers_listed count numbers = if count == 0 then [] else (codes ":" ++ spaced numbers)
 
 -- a region's number, its begun iterations, and how many were executed again, with the first of their numbers
 abbrev pub counts_line : ℕ → ℕ → ℕ → List ℕ → List ℕ
 counts_line region begun count numbers =
-    line (labelled (codes "region ") region ++ labelled (codes " iterations ") begun ++ labelled (codes " recovered ") count ++ listed count numbers)
+    line (labelled (codes "region ") region ++ labelled (codes " iterations ") begun ++ labelled (codes " recovered ") count ++ numbers_listed count numbers)
 
 -- the cause of each number that is listed, where `why` holds
 abbrev pub causes_if : Bool → RegionReport → List ℕ

@@ -6,12 +6,12 @@ use Rattle.dp_tree.specs.Globals.{globals_in}
 use Rattle.dp_report.specs.Lines.{line, spaced_signed}
 
 -- a variable's values, in the order of its cells
-abbrev pub values : List ℤ → VarInfo → List ℤ
-values cells v = take v.length (drop v.first.0 cells)
+abbrev pub variable_values : List ℤ → VarInfo → List ℤ
+variable_values cells v = take v.length (drop v.first.0 cells)
 
 -- a variable's name and its values
 abbrev pub variable_line : List ℤ → VarInfo → List ℕ
-variable_line cells v = line (v.name ++ spaced_signed (values cells v))
+variable_line cells v = line (v.name ++ spaced_signed (variable_values cells v))
 
 -- `state`, and a line for each file-scope variable, in text order
 abbrev pub state_bytes : List VarInfo → List ℤ → List ℕ

@@ -1,7 +1,7 @@
 //! The regions of a run.
 
 ghost use Rattle.std.specs.Prelude.{◌≡◌, ◌++◌, OnOk};
-ghost use Rattle.dp_report.specs.RegionText.{listed, counts_line, causes_if, report_lines, regions_bytes};
+ghost use Rattle.dp_report.specs.RegionText.{numbers_listed, counts_line, causes_if, report_lines, regions_bytes};
 
 use crate::causes::put_causes;
 use crate::decimal::put_spaced;
@@ -48,9 +48,9 @@ fn put_counts(out: &mut Row<u8>, report: &RegionReport) -> Result<(), NoMemory>
 }
 
 /// A colon and the numbers, where there are any.
-#[tactic(auto, unfolding(crate::specs::RegionText::listed))]
+#[tactic(auto, unfolding(crate::specs::RegionText::numbers_listed))]
 fn put_listed(out: &mut Row<u8>, count: u64, numbers: &[u64]) -> Result<(), NoMemory>
-    ensures { OnOk result (out.new ≡ out.old ++ listed count numbers.now) }
+    ensures { OnOk result (out.new ≡ out.old ++ numbers_listed count numbers.now) }
 {
     if count == 0 {
         return Ok(());

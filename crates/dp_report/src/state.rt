@@ -1,7 +1,7 @@
 //! The file-scope variables at the end of a run.
 
 ghost use Rattle.std.specs.Prelude.{◌≡◌, ◌++◌, OnOk};
-ghost use Rattle.dp_report.specs.StateText.{values, variable_line, state_bytes};
+ghost use Rattle.dp_report.specs.StateText.{variable_values, variable_line, state_bytes};
 
 use crate::decimal::put_spaced_signed;
 use dp_base::{NoMemory, Row};
@@ -30,7 +30,7 @@ fn put_variable(out: &mut Row<u8>, var: &VarInfo, cells: &[i64]) -> Result<(), N
 
 /// The variable's cells.
 fn values<'c>(var: &VarInfo, cells: &'c [i64]) -> &'c [i64]
-    ensures { result.now ≡ values cells.now var.now }
+    ensures { result.now ≡ variable_values cells.now var.now }
 {
     let first = cells.len().min(var.first.0 as usize);
     let behind = &cells[first..];

@@ -31,18 +31,22 @@ module _ (p : Program) (r : ℕ) where
   standing_clears (x ∷ xs) cells on = head_clears (out-Stmt x) cells on
 
   -- the region is left from within its body
-  leaving_clears : (inner behind : List Stmt) (cells : List ℤ) → inner_all inner ≡ true → begins_with r behind ≡ true → cleared_leaving p (inner ++ behind) cells ≡ clear_locals r p.vars cells
+  leaving_clears : (inner behind : List Stmt) (cells : List ℤ) → inner_all inner ≡ true → begins_with r behind ≡ true →
+      cleared_leaving p (inner ++ behind) cells ≡ clear_locals r p.vars cells
   leaving_clears [] [] cells plain on = absurd (cc on)
   leaving_clears [] (x ∷ behind) cells plain on = ap (λ (o : Option ℕ). clear_one p o cells (cleared_leaving p behind cells)) (number_is r (out-Stmt x) on)
   leaving_clears (x ∷ inner) behind cells plain on =
       let both = and_parts (is_inner x) (inner_all inner) plain in
-      ap (λ (o : Option ℕ). clear_one p o cells (cleared_leaving p (inner ++ behind) cells)) (no_number (out-Stmt x) (sym (inner_out x) ∙ both.0)) ∙ leaving_clears inner behind cells both.1 on
+      ap (λ (o : Option ℕ). clear_one p o cells (cleared_leaving p (inner ++ behind) cells)) (no_number (out-Stmt x) (sym (inner_out x) ∙ both.0))
+      ∙ leaving_clears inner behind cells both.1 on
 
-  pub taken_clears : (inner behind : List Stmt) (h : Stmt-F Stmt) (effect : Effect) (cells : List ℤ) → taken h (value_of effect) ≡ true → inner_all inner ≡ true → begins_with r behind ≡ true →
+  pub taken_clears : (inner behind : List Stmt) (h : Stmt-F Stmt) (effect : Effect) (cells : List ℤ) → taken h (value_of effect) ≡ true →
+      inner_all inner ≡ true → begins_with r behind ≡ true →
       stored_by p (inner ++ behind) h effect cells ≡ clear_locals r p.vars (stored effect cells)
   taken_clears inner behind (Break site cond) effect cells t plain on = by (is_zero (value_of effect)) t
     where
-      by : (b : Bool) → not b ≡ true → (if b then stored effect cells else cleared_leaving p (inner ++ behind) (stored effect cells)) ≡ clear_locals r p.vars (stored effect cells)
+      by : (b : Bool) → not b ≡ true → (if b then stored effect cells else cleared_leaving p (inner ++ behind) (stored effect cells)) ≡ clear_locals r p.vars
+          (stored effect cells)
       by true t = absurd (cc t)
       by false t = leaving_clears inner behind (stored effect cells) plain on
   taken_clears inner behind _ effect cells t plain on = absurd (cc t)

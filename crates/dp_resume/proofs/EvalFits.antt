@@ -1,5 +1,6 @@
 -- What is evaluated from numbers of 64 bits is a number of 64 bits.
-use Rattle.std.proofs.Common.{◌≡◌, refl, ℕ, zero, suc, ◌+◌, ◌^◌, ◌<◌, ◌≤◌, Bool, true, false, not, if◌then◌else◌, List, ℤ, pos, negsuc, neg_ℤ, ◌+ℤ◌, ◌-ℤ◌, ◌*ℤ◌, int_div, int_rem, int_lt, int_le, unsigned_abs, length, get_or, nat_lt, Result, Ok, Err, arith, lt-ltb, ltb-true}
+use Rattle.std.proofs.Common.{◌≡◌, refl, ℕ, zero, suc, ◌+◌, ◌^◌, ◌<◌, ◌≤◌, Bool, true, false, not, if◌then◌else◌, List, ℤ, pos, negsuc, neg_ℤ, ◌+ℤ◌, ◌-ℤ◌, ◌*ℤ◌}
+use Rattle.std.proofs.Common.{int_div, int_rem, int_lt, int_le, unsigned_abs, length, get_or, nat_lt, Result, Ok, Err, arith, lt-ltb, ltb-true}
 use Rattle.std.specs.Ordering.{int_eq}
 use Rattle.std.proofs.lemmas.Bool.{and_parts}
 use Rattle.std.proofs.lemmas.Int.{rem_below}
@@ -99,7 +100,8 @@ pub gives_just : {X : Type 0} (P : X → Type 0) (x : X) → P x → Gives P (ju
 unfolding Gives
 gives_just P x h = h
 
-pub gives_then : {X Y : Type 0} (P : X → Type 0) (Q : Y → Type 0) (u : Evaluated X) (f : X → Evaluated Y) → Gives P u → ((x : X) → P x → Gives Q (f x)) → Gives Q (and_then u f)
+pub gives_then : {X Y : Type 0} (P : X → Type 0) (Q : Y → Type 0) (u : Evaluated X) (f : X → Evaluated Y) → Gives P u → ((x : X) → P x → Gives Q (f x)) →
+    Gives Q (and_then u f)
 unfolding Gives
 gives_then {Y = Y} P Q (Ok x) f first next = by (f x.value) (next x.value first)
   where
@@ -146,20 +148,28 @@ module _ (p : Program) (input : List ℤ) (few : length input < 2 ^ 63) (read : 
   pub eval_fits : (e : Expr) → expr_fits e ≡ true → Gives IsWide (eval p input cells e)
   unfolding eval
   eval_fits (tree.Number n) h = gives_just IsWide n h
-  eval_fits (tree.Input' _ (more_of-Expr e end_of-Expr)) h = gives_then IsWide IsWide _ _ (eval_fits e h) (λ i w. gives_then Any IsWide _ _ (gives_place i (length input)) (λ k u. gives_just IsWide _ (read k)))
+  eval_fits (tree.Input' _ (more_of-Expr e end_of-Expr)) h =
+      gives_then IsWide IsWide _ _ (eval_fits e h) (λ i w. gives_then Any IsWide _ _ (gives_place i (length input)) (λ k u. gives_just IsWide _ (read k)))
   eval_fits tree.InputLen h = gives_just IsWide _ (lt-ltb (length input) (2 ^ 63) few)
   eval_fits (tree.Scalar x) h = gives_load cells (first_cell p x) wide
-  eval_fits (tree.Element' x _ (more_of-Expr e end_of-Expr)) h = gives_then IsWide IsWide _ _ (eval_fits e h) (λ i w. gives_then Any IsWide _ _ (gives_place i (cell_count p x)) (λ k u. gives_load cells (first_cell p x + k) wide))
-  eval_fits (tree.Unary' op _ (more_of-Expr e end_of-Expr)) h = gives_then IsWide IsWide _ _ (eval_fits e h) (λ x w. gives_result (unary_result op x) (unary_fits op x))
+  eval_fits (tree.Element' x _ (more_of-Expr e end_of-Expr)) h =
+      gives_then IsWide IsWide _ _ (eval_fits e h) (λ i w. gives_then Any IsWide _ _ (gives_place i (cell_count p x))
+      (λ k u. gives_load cells (first_cell p x + k) wide))
+  eval_fits (tree.Unary' op _ (more_of-Expr e end_of-Expr)) h =
+      gives_then IsWide IsWide _ _ (eval_fits e h) (λ x w. gives_result (unary_result op x) (unary_fits op x))
   eval_fits (tree.Binary' op _ (more_of-Expr a end_of-Expr) _ (more_of-Expr b end_of-Expr)) h =
       let both = and_parts (expr_fits a) (expr_fits b) h in
-      gives_then IsWide IsWide _ _ (eval_fits a both.0) (λ x w. gives_then IsWide IsWide _ _ (eval_fits b both.1) (λ y v. gives_result (binary_result op x y) (binary_fits op x y v)))
+      gives_then IsWide IsWide _ _ (eval_fits a both.0) (λ x w. gives_then IsWide IsWide _ _ (eval_fits b both.1)
+      (λ y v. gives_result (binary_result op x y) (binary_fits op x y v)))
   eval_fits (tree.And' _ (more_of-Expr a end_of-Expr) _ (more_of-Expr b end_of-Expr)) h =
       let both = and_parts (expr_fits a) (expr_fits b) h in
-      gives_then IsWide IsWide _ _ (eval_fits a both.0) (λ x w. gives_if IsWide (is_zero x) _ _ (gives_just IsWide (pos 0) refl) (gives_then IsWide IsWide _ _ (eval_fits b both.1) (λ y v. gives_just IsWide _ (number_fits (not (is_zero y))))))
+      gives_then IsWide IsWide _ _ (eval_fits a both.0) (λ x w. gives_if IsWide (is_zero x) _ _ (gives_just IsWide (pos 0) refl)
+      (gives_then IsWide IsWide _ _ (eval_fits b both.1) (λ y v. gives_just IsWide _ (number_fits (not (is_zero y))))))
   eval_fits (tree.Or' _ (more_of-Expr a end_of-Expr) _ (more_of-Expr b end_of-Expr)) h =
       let both = and_parts (expr_fits a) (expr_fits b) h in
-      gives_then IsWide IsWide _ _ (eval_fits a both.0) (λ x w. gives_if IsWide (is_zero x) _ _ (gives_then IsWide IsWide _ _ (eval_fits b both.1) (λ y v. gives_just IsWide _ (number_fits (not (is_zero y))))) (gives_just IsWide (pos 1) refl))
+      gives_then IsWide IsWide _ _ (eval_fits a both.0)
+      (λ x w. gives_if IsWide (is_zero x) _ _ (gives_then IsWide IsWide _ _ (eval_fits b both.1) (λ y v. gives_just IsWide _ (number_fits (not (is_zero y)))))
+      (gives_just IsWide (pos 1) refl))
 
 -- any value will do
 pub gives_any : {X : Type 0} (u : Evaluated X) → Gives (λ (x : X). Unit {0}) u

@@ -1,5 +1,6 @@
 -- What a step stores where the stores of its statement are at home.
-use Rattle.std.proofs.Common.{◌≡◌, refl, sym, ap, ◌∙◌, subst, ℕ, ◌+◌, ◌<◌, Bool, true, false, ◌&&◌, if◌then◌else◌, List, ℤ, pos, negsuc, length, Option, slice_get, nat_lt, Ok, Err, arith, ltb-true}
+use Rattle.std.proofs.Common.{◌≡◌, refl, sym, ap, ◌∙◌, subst, ℕ, ◌+◌, ◌<◌, Bool, true, false, ◌&&◌, if◌then◌else◌, List, ℤ, pos, negsuc, length, Option}
+use Rattle.std.proofs.Common.{slice_get, nat_lt, Ok, Err, arith, ltb-true}
 use Rattle.std.proofs.lemmas.Bool.{and_parts}
 use Rattle.dp_base.specs.declared.FaultKind.TheVariants.{Index}
 use Rattle.dp_base.specs.declared.VarId.{VarId}
@@ -42,7 +43,8 @@ head_named n _ = true
 
 named_roll : (n : ℕ) (h : Stmt-F Stmt) → names_within n (roll-Stmt h) ≡ true → head_named n h ≡ true
 named_roll n (Assign site x e) w = (and_parts (nat_lt x.0 n) (expr_within n e) (sym (ap (names_within n) (rolls-Assign site x e)) ∙ w)).0
-named_roll n (Store site x index e) w = (and_parts (nat_lt x.0 n) (expr_within n index && expr_within n e) (sym (ap (names_within n) (rolls-Store site x index e)) ∙ w)).0
+named_roll n (Store site x index e) w =
+    (and_parts (nat_lt x.0 n) (expr_within n index && expr_within n e) (sym (ap (names_within n) (rolls-Store site x index e)) ∙ w)).0
 named_roll n _ w = refl
 
 pub named_out : (n : ℕ) (x : Stmt) → names_within n x ≡ true → head_named n (out-Stmt x) ≡ true
@@ -55,7 +57,8 @@ pub StoresHome : ℕ → List VarInfo → Effect → Type 0
 StoresHome r vars (Stored c z) = IsHomeCell r vars c
 StoresHome r vars _ = Unit {0}
 
-pub stored_clear : (r : ℕ) (vars : List VarInfo) (effect : Effect) (cells : List ℤ) → StoresHome r vars effect → ClearBut r vars cells → ClearBut r vars (stored effect cells)
+pub stored_clear : (r : ℕ) (vars : List VarInfo) (effect : Effect) (cells : List ℤ) → StoresHome r vars effect → ClearBut r vars cells →
+    ClearBut r vars (stored effect cells)
 unfolding StoresHome
 stored_clear r vars (Stored c z) cells home h = home_stored r vars cells c z home h
 stored_clear r vars (Printed z) cells home h = h
@@ -74,7 +77,8 @@ place_below (negsuc i) n = tt
 
 module _ (p : Program) (input : List ℤ) (lies : lies_in_order 0 p.vars ≡ true) (cells : List ℤ) (r : ℕ) where
   -- a cell of a variable of the table that is at home
-  stored_at : (x : VarId) (k : ℕ) → nat_lt x.0 (length p.vars) ≡ true → is_home_at r (slice_get p.vars x.0) ≡ true → k < cell_count p x → IsHomeCell r p.vars (first_cell p x + k)
+  stored_at : (x : VarId) (k : ℕ) → nat_lt x.0 (length p.vars) ≡ true → is_home_at r (slice_get p.vars x.0) ≡ true → k < cell_count p x →
+      IsHomeCell r p.vars (first_cell p x + k)
   stored_at x k named home less =
       let w = at_index p.vars x.0 (ltb-true x.0 (length p.vars) named) in
       let inside : k < w.0.length = subst (λ (n : ℕ). k < n) (ap length_of w.1) less in
@@ -92,13 +96,17 @@ module _ (p : Program) (input : List ℤ) (lies : lies_in_order 0 p.vars ≡ tru
   none_stored f h (Ok v) = h v.value
   none_stored f h (Err kind) = tt
 
-  pub evaluated_home : (h : Stmt-F Stmt) → head_home p.vars r h ≡ true → head_named (length p.vars) h ≡ true → Gives (StoresHome r p.vars) (evaluated p input cells h)
+  pub evaluated_home : (h : Stmt-F Stmt) → head_home p.vars r h ≡ true → head_named (length p.vars) h ≡ true →
+      Gives (StoresHome r p.vars) (evaluated p input cells h)
   unfolding StoresHome Gives
   evaluated_home (Assign site x e) home named =
-      gives_then (λ (z : ℤ). Unit {0}) (StoresHome r p.vars) _ _ (gives_any (eval p input cells e)) (λ z t. gives_just (StoresHome r p.vars) (Stored (first_cell p x) z) (first_stored x named home))
+      gives_then (λ (z : ℤ). Unit {0}) (StoresHome r p.vars) _ _ (gives_any (eval p input cells e))
+      (λ z t. gives_just (StoresHome r p.vars) (Stored (first_cell p x) z) (first_stored x named home))
   evaluated_home (Store site x index e) home named =
-      gives_then (λ (z : ℤ). Unit {0}) (StoresHome r p.vars) _ _ (gives_any (eval p input cells index)) (λ i t. gives_then (λ (z : ℤ). Unit {0}) (StoresHome r p.vars) _ _ (gives_any (eval p input cells e))
-      (λ z u. gives_then (λ (k : ℕ). k < cell_count p x) (StoresHome r p.vars) _ _ (place_below i (cell_count p x)) (λ k less. gives_just (StoresHome r p.vars) (Stored (first_cell p x + k) z) (stored_at x k named home less))))
+      gives_then (λ (z : ℤ). Unit {0}) (StoresHome r p.vars) _ _ (gives_any (eval p input cells index))
+      (λ i t. gives_then (λ (z : ℤ). Unit {0}) (StoresHome r p.vars) _ _ (gives_any (eval p input cells e))
+      (λ z u. gives_then (λ (k : ℕ). k < cell_count p x) (StoresHome r p.vars) _ _ (place_below i (cell_count p x))
+      (λ k less. gives_just (StoresHome r p.vars) (Stored (first_cell p x + k) z) (stored_at x k named home less))))
   evaluated_home (Print site e) home named = none_stored Printed (λ z. tt) (eval p input cells e)
   evaluated_home (If site cond a b) home named = none_stored Decided (λ z. tt) (eval p input cells cond)
   evaluated_home (While site cond a) home named = none_stored Decided (λ z. tt) (eval p input cells cond)

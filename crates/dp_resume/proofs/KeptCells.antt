@@ -1,5 +1,6 @@
 -- What is so of a run's configurations from its first one on, and what is so of a memory when cells are set to 0.
-use Rattle.std.proofs.Common.{◌≡◌, sym, ap, subst, ℕ, zero, suc, Bool, true, false, if◌then◌else◌, List, [], ◌∷◌, ℤ, pos, Option, Some, None, slice_get, slice_set, Ok, Err, arith}
+use Rattle.std.proofs.Common.{◌≡◌, sym, ap, subst, ℕ, zero, suc, Bool, true, false, if◌then◌else◌, List, [], ◌∷◌, ℤ, pos, Option, Some, None, slice_get}
+use Rattle.std.proofs.Common.{slice_set, Ok, Err, arith}
 use Rattle.std.proofs.lemmas.Option.{slice_get_within}
 use Rattle.dp_base.specs.Arithmetic.{is_zero}
 use Rattle.dp_base.specs.declared.SiteId.{SiteId}
@@ -10,7 +11,8 @@ use Rattle.dp_tree.specs.declared.VarInfo.{VarInfo}
 use Rattle.dp_tree.specs.declared.Program.{Program}
 use Rattle.dp_tree.specs.Eval.{Evaluated}
 use Rattle.dp_tree.specs.Event.{Effect, Event, value_of, stored}
-use Rattle.dp_tree.specs.Step.{Config, Stepped, after_effect, clear_locals, clear_one, cleared_at, cleared_leaving, evaluated, is_local_of, region_number, site_of, standing, step, step_at, step_by, stored_by}
+use Rattle.dp_tree.specs.Step.{Config, Stepped, after_effect, clear_locals, clear_one, cleared_at, cleared_leaving, evaluated, is_local_of, region_number}
+use Rattle.dp_tree.specs.Step.{site_of, standing, step, step_at, step_by, stored_by}
 use Rattle.dp_tree.specs.Trace.{run_of}
 use Rattle.dp_tree.specs.RunLaws.{GoesByStep}
 use Rattle.dp_tree.proofs.RunLaws.{runs_by_step}
@@ -37,14 +39,16 @@ module _ (p : Program) (input : List ℤ) (P : Config → Type 0) (next : (c d :
 -- ---- the effect of a step
 
 module _ (p : Program) (input : List ℤ) (P : Effect → Type 0) where
-  effect_by : (site : SiteId) (e : Evaluated Effect) (next_of : Effect → Config) (event : Event) (next : Config) → step_by p site e next_of ≡ Stepped event next → Gives P e → P event.effect
+  effect_by : (site : SiteId) (e : Evaluated Effect) (next_of : Effect → Config) (event : Event) (next : Config) →
+      step_by p site e next_of ≡ Stepped event next → Gives P e → P event.effect
   unfolding Gives
   effect_by site (Err kind) next_of event next e given = absurd (cc)
   effect_by site (Ok v) next_of event next e given =
       let event_is : event ≡ record { site = site.0; loads = v.loads; effect = v.value } = cc in
       subst P (sym (ap (λ (x : Event). x.effect) event_is)) given
 
-  pub effect_at : (x : Stmt) (rest : List Stmt) (cells : List ℤ) (h : Stmt-F Stmt) (event : Event) (next : Config) → step_at p input cells x rest h ≡ Stepped event next → Gives P (evaluated p input cells h) → P event.effect
+  pub effect_at : (x : Stmt) (rest : List Stmt) (cells : List ℤ) (h : Stmt-F Stmt) (event : Event) (next : Config) →
+      step_at p input cells x rest h ≡ Stepped event next → Gives P (evaluated p input cells h) → P event.effect
   effect_at x rest cells (Call f line args) event next e given = absurd (cc)
   effect_at x rest cells h event next e given = effect_by (site_of h) (evaluated p input cells h) (after_effect p x rest cells h) event next e given
 
@@ -53,7 +57,8 @@ module _ (p : Program) (input : List ℤ) (P : Effect → Type 0) where
 module _ (p : Program) (P : List ℤ → Type 0) (zeroed : (cells : List ℤ) (c : ℕ) → P cells → P (slice_set cells c (pos 0))) where
   pub kept_clearing : (r : ℕ) (vars : List VarInfo) (cells : List ℤ) → P cells → P (clear_locals r vars cells)
   kept_clearing r [] cells h = h
-  kept_clearing r (x ∷ xs) cells h = kept_clearing r xs (if is_local_of r x.scope then slice_set cells x.first.0 (pos 0) else cells) (by (is_local_of r x.scope))
+  kept_clearing r (x ∷ xs) cells h =
+      kept_clearing r xs (if is_local_of r x.scope then slice_set cells x.first.0 (pos 0) else cells) (by (is_local_of r x.scope))
     where
       by : (b : Bool) → P (if b then slice_set cells x.first.0 (pos 0) else cells)
       by true = zeroed cells x.first.0 h
@@ -84,5 +89,6 @@ module _ (p : Program) (P : List ℤ → Type 0) (zeroed : (cells : List ℤ) (c
   kept_storing rest _ effect cells h = h
 
   -- the memory after the effect
-  pub kept_after : (x : Stmt) (rest : List Stmt) (h : Stmt-F Stmt) (effect : Effect) (cells : List ℤ) → P (stored effect cells) → P (after_effect p x rest cells h effect).cells
+  pub kept_after : (x : Stmt) (rest : List Stmt) (h : Stmt-F Stmt) (effect : Effect) (cells : List ℤ) → P (stored effect cells) →
+      P (after_effect p x rest cells h effect).cells
   kept_after x rest h effect cells k = kept_standing _ (stored_by p rest h effect cells) (kept_storing rest h effect cells k)

@@ -1,5 +1,6 @@
 -- The locals of regions' bodies where a run begins.
-use Rattle.std.proofs.Common.{◌≡◌, refl, sym, ap, ◌∙◌, subst, append_assoc, ℕ, zero, suc, ◌+◌, ◌<◌, Bool, true, false, List, [], ◌∷◌, ◌++◌, ℤ, pos, negsuc, length, get_or, replicate, length-append, Some, slice_get, nat_lt, arith, ltb-true, ne_eqb}
+use Rattle.std.proofs.Common.{◌≡◌, refl, sym, ap, ◌∙◌, subst, append_assoc, ℕ, zero, suc, ◌+◌, ◌<◌, Bool, true, false, List, [], ◌∷◌, ◌++◌, ℤ, pos, negsuc}
+use Rattle.std.proofs.Common.{length, get_or, replicate, length-append, Some, slice_get, nat_lt, arith, ltb-true, ne_eqb}
 use Rattle.std.specs.List.{list_all}
 use Rattle.std.proofs.lemmas.Bool.{and_parts}
 use Rattle.std.proofs.lemmas.List.{length-replicate}
@@ -53,19 +54,23 @@ zero_start start Global clear body = absurd (cc body)
 zero_start start Outer clear body = absurd (cc body)
 zero_start start (Body q) clear body = zero_only start (and_parts (nat_lt 0 q) (is_zero start) clear).1
 
-starts_at : (k : ℕ) (vars : List VarInfo) → lies_in_order k vars ≡ true → (front : List ℤ) → length front ≡ k → list_all starts_clear vars ≡ true → (i : ℕ) (x : VarInfo) → slice_get vars i ≡ Some x → is_body_scope x.scope ≡ true
+starts_at : (k : ℕ) (vars : List VarInfo) → lies_in_order k vars ≡ true → (front : List ℤ) → length front ≡ k → list_all starts_clear vars ≡ true →
+    (i : ℕ) (x : VarInfo) → slice_get vars i ≡ Some x → is_body_scope x.scope ≡ true
     → get_or (front ++ start_cells vars) x.first.0 (pos 0) ≡ pos 0
 starts_at k [] lies front long starts i x at body = absurd (cc at)
 starts_at k (v ∷ vars) lies front long starts zero x at body =
     let l = lying k v vars lies in let same : v ≡ x = same_Some v x at in
     let clear = (and_parts (starts_clear v) (list_all starts_clear vars) starts).0 in
     subst (λ (u : VarInfo). is_body_scope u.scope ≡ true → get_or (front ++ (replicate v.length v.start ++ start_cells vars)) u.first.0 (pos 0) ≡ pos 0) same
-    (λ inside. ap (λ (c : ℕ). get_or (front ++ (replicate v.length v.start ++ start_cells vars)) c (pos 0)) (l.0 ∙ sym long) ∙ reads_start front v.length v.start (start_cells vars) l.1 ∙ zero_start v.start v.scope clear inside) body
+    (λ inside. ap (λ (c : ℕ). get_or (front ++ (replicate v.length v.start ++ start_cells vars)) c (pos 0)) (l.0 ∙ sym long)
+    ∙ reads_start front v.length v.start (start_cells vars) l.1 ∙ zero_start v.start v.scope clear inside) body
 starts_at k (v ∷ vars) lies front long starts (suc i) x at body =
     let l = lying k v vars lies in
-    let more : length (front ++ replicate v.length v.start) ≡ k + v.length = length-append front (replicate v.length v.start) ∙ ap (λ (n : ℕ). length front + n) (length-replicate v.length v.start) ∙ ap (λ (n : ℕ). n + v.length) long in
+    let more : length (front ++ replicate v.length v.start) ≡ k + v.length = length-append front (replicate v.length v.start)
+    ∙ ap (λ (n : ℕ). length front + n) (length-replicate v.length v.start) ∙ ap (λ (n : ℕ). n + v.length) long in
     ap (λ (cells : List ℤ). get_or cells x.first.0 (pos 0)) (sym (append_assoc front (replicate v.length v.start) (start_cells vars)))
-    ∙ starts_at (k + v.length) vars l.2 (front ++ replicate v.length v.start) more (and_parts (starts_clear v) (list_all starts_clear vars) starts).1 i x at body
+    ∙ starts_at (k + v.length) vars l.2 (front ++ replicate v.length v.start) more (and_parts (starts_clear v) (list_all starts_clear vars)
+    starts).1 i x at body
 
 pub starts_zero : (vars : List VarInfo) → lies_in_order 0 vars ≡ true → list_all starts_clear vars ≡ true → AllClear vars (start_cells vars)
 starts_zero vars lies starts i x at body = starts_at 0 vars lies [] refl starts i x at body

@@ -1,9 +1,10 @@
 -- Reports that are gone on with, and their lines.
-use Rattle.std.proofs.Common.{◌≡◌, refl, sym, ap, ◌∙◌, subst, ℕ, zero, suc, ◌+◌, ◌<◌, ◌≤◌, ◌^◌, min, Bool, true, false, List, [], ◌∷◌, ◌++◌, length, map, take, drop, filter, All, Some, None, slice_get, slice_set, append_assoc, append-nil, length-append, arith}
+use Rattle.std.proofs.Common.{◌≡◌, refl, sym, ap, ◌∙◌, ℕ, zero, suc, ◌+◌, ◌<◌, ◌≤◌, ◌^◌, min, Bool, true, false, List, [], ◌∷◌, ◌++◌, length, map, take, drop}
+use Rattle.std.proofs.Common.{filter, All, append-nil, length-append, arith}
 use Rattle.std.specs.Prelude.{if◌then◌else◌}
 use Rattle.std.proofs.lemmas.List.{length-map, length-take}
 use Rattle.std.proofs.lemmas.Grind.{flat_map-append}
-use Rattle.std.proofs.lemmas.List.Elements.{All-cons, All-head, All-nil, All-pop, All-tail, All-take}
+use Rattle.std.proofs.lemmas.List.Elements.{All-cons, All-head, All-nil, All-tail, All-take}
 use Rattle.std.proofs.Math.Nat.{min-le_left, min-le_right}
 use Rattle.dp_base.specs.declared.RegionReport.{RegionReport}
 use Rattle.dp_base.specs.declared.limits.TheConstants.{LISTED}
@@ -28,10 +29,6 @@ use Rattle.dp_resume.proofs.ToldReports.{told_alike}
 
 -- ---- the numbers that are listed
 
--- one number more
-pub listed_more : (before : ℕ) (listed : List ℕ) (i : ℕ) (rest : List ℕ) → take LISTED ((listed ++ (before + i) ∷ []) ++ map (λ k. before + k) rest) ≡ take LISTED (listed ++ map (λ k. before + k) (i ∷ rest))
-listed_more before listed i rest = ap (take LISTED) (append_assoc listed ((before + i) ∷ []) (map (λ k. before + k) rest))
-
 take_all : {X : Type 0} (n : ℕ) (xs : List X) → length xs ≤ n → take n xs ≡ xs
 take_all zero [] h = refl
 take_all (suc n) [] h = refl
@@ -53,31 +50,20 @@ listed_all before listed high = sym (ap (take LISTED) (append-nil listed) ∙ ta
 
 -- ---- the last of the saved reports
 
-pub merged_last : (before : List RegionReport) (last : RegionReport) (told : List RegionReport) → merged (before ++ last ∷ []) told ≡ before ++ first_behind last told
+pub merged_last : (before : List RegionReport) (last : RegionReport) (told : List RegionReport) → merged (before ++ last ∷ []) told ≡ before
+    ++ first_behind last told
 merged_last [] last told = refl
 merged_last (r ∷ []) last told = refl
 merged_last (r ∷ next ∷ before) last told = ap (λ (rs : List RegionReport). r ∷ rs) (merged_last (next ∷ before) last told)
 
 -- taken off, gone on with and put back
-pub merged_again : (saved before : List RegionReport) (last : RegionReport) (told behind : List RegionReport) → saved ≡ before ++ last ∷ [] → behind ≡ first_behind last told → before ++ behind ≡ merged saved told
-merged_again saved before last told behind is with = ap (λ (rs : List RegionReport). before ++ rs) with ∙ sym (ap (λ (rs : List RegionReport). merged rs told) is ∙ merged_last before last told)
+pub merged_again : (saved before : List RegionReport) (last : RegionReport) (told behind : List RegionReport) → saved ≡ before ++ last ∷ [] →
+    behind ≡ first_behind last told → before ++ behind ≡ merged saved told
+merged_again saved before last told behind is with =
+    ap (λ (rs : List RegionReport). before ++ rs) with ∙ sym (ap (λ (rs : List RegionReport). merged rs told) is ∙ merged_last before last told)
 
-pub first_none : (last : RegionReport) (told : List RegionReport) → slice_get told 0 ≡ None → told ++ last ∷ [] ≡ first_behind last told
-first_none last [] e = refl
-first_none last (r ∷ told) e = absurd (cc e)
-
-pub first_some : (last first made : RegionReport) (told : List RegionReport) → slice_get told 0 ≡ Some first → made ≡ with_behind last first → slice_set told 0 made ≡ first_behind last told
-first_some last first made [] e is = absurd (cc e)
-first_some last first made (r ∷ told) e is = let same : r ≡ first = cc e in ap (λ (x : RegionReport). x ∷ told) (is ∙ ap (with_behind last) (sym same))
-
-pub first_small : (told : List RegionReport) (first : RegionReport) → All IsSmall told → slice_get told 0 ≡ Some first → IsSmall first
-first_small [] first all e = absurd (cc e)
-first_small (r ∷ told) first all e = let same : r ≡ first = cc e in subst IsSmall same (All-head IsSmall r told all)
-
-pub last_small : (saved before : List RegionReport) (last : RegionReport) → saved ≡ before ++ last ∷ [] → All IsSmall saved → IsSmall last
-last_small saved before last is all = (All-pop IsSmall saved before (Some last) is all).1
-
-merged_more : (saved : List RegionReport) (first : RegionReport) (told more : List RegionReport) → 0 < length saved → merged saved (first ∷ (told ++ more)) ≡ merged saved (first ∷ told) ++ more
+merged_more : (saved : List RegionReport) (first : RegionReport) (told more : List RegionReport) → 0 < length saved →
+    merged saved (first ∷ (told ++ more)) ≡ merged saved (first ∷ told) ++ more
 merged_more [] first told more some = absurd (omega (arith, some))
 merged_more (last ∷ []) first told more some = refl
 merged_more (r ∷ next ∷ saved) first told more some = ap (λ (rs : List RegionReport). r ∷ rs) (merged_more (next ∷ saved) first told more (omega arith))
@@ -97,14 +83,17 @@ resumed_merged p run (r ∷ next ∷ saved) (plan ∷ plans) (suc n) long more =
     ap (λ (rs : List RegionReport). uncaused r ∷ rs) (resumed_merged p run (next ∷ saved) plans n shorter (omega (arith, more)))
 
 -- causes of the run's own reports make no difference
-pub merged_alike : (p : Program) (run : Run) (saved : List RegionReport) (plans : List Plan) → map uncaused (merged saved (told_reports false p plans run)) ≡ map uncaused (merged saved (region_reports p plans run))
+pub merged_alike : (p : Program) (run : Run) (saved : List RegionReport) (plans : List Plan) → map uncaused (merged saved (told_reports false p plans run))
+    ≡ map uncaused (merged saved (region_reports p plans run))
 merged_alike p run [] plans = told_alike p run plans
 merged_alike p run (last ∷ []) [] = refl
-merged_alike p run (last ∷ []) (plan ∷ plans) = ap (λ (rs : List RegionReport). uncaused (with_behind last (region_report p plan run)) ∷ rs) (told_alike p run plans)
+merged_alike p run (last ∷ []) (plan ∷ plans) =
+    ap (λ (rs : List RegionReport). uncaused (with_behind last (region_report p plan run)) ∷ rs) (told_alike p run plans)
 merged_alike p run (r ∷ next ∷ saved) plans = ap (λ (rs : List RegionReport). uncaused r ∷ rs) (merged_alike p run (next ∷ saved) plans)
 
 -- where the reports behind the first have no line
-pub merged_lines : (saved : List RegionReport) (first : RegionReport) (told more : List RegionReport) → 0 < length saved → regions_bytes false more ≡ [] → regions_bytes false (merged saved (first ∷ told)) ≡ regions_bytes false (merged saved (first ∷ (told ++ more)))
+pub merged_lines : (saved : List RegionReport) (first : RegionReport) (told more : List RegionReport) → 0 < length saved → regions_bytes false more ≡ [] →
+    regions_bytes false (merged saved (first ∷ told)) ≡ regions_bytes false (merged saved (first ∷ (told ++ more)))
 merged_lines saved first told more some none =
     sym (ap (regions_bytes false) (merged_more saved first told more some)
     ∙ flat_map-append (report_lines false) (merged saved (first ∷ told)) more
@@ -119,16 +108,19 @@ min_sum a b c d e f = omega (arith, e, f)
 listed_behind : (saved behind : RegionReport) → IsListed saved → IsListed behind → IsListed (with_behind saved behind)
 listed_behind saved behind a b =
     length-take LISTED (saved.recovered ++ map (λ k. saved.iterations + k) behind.recovered)
-    ∙ ap (min LISTED) (length-append saved.recovered (map (λ k. saved.iterations + k) behind.recovered) ∙ ap (λ (n : ℕ). length saved.recovered + n) (length-map behind.recovered (λ k. saved.iterations + k)))
+    ∙ ap (min LISTED) (length-append saved.recovered (map (λ k. saved.iterations + k) behind.recovered)
+    ∙ ap (λ (n : ℕ). length saved.recovered + n) (length-map behind.recovered (λ k. saved.iterations + k)))
     ∙ min_sum saved.recovered_count behind.recovered_count (length saved.recovered) (length behind.recovered) a b
 
 pub listed_merged : (saved told : List RegionReport) → All IsListed saved → All IsListed told → All IsListed (merged saved told)
 listed_merged [] told a b = b
 listed_merged (last ∷ []) [] a b = a
 listed_merged (last ∷ []) (first ∷ told) a b =
-    All-cons IsListed (with_behind last first) told (listed_behind last first (All-head IsListed last [] a) (All-head IsListed first told b)) (All-tail IsListed first told b)
+    All-cons IsListed (with_behind last first) told (listed_behind last first (All-head IsListed last [] a) (All-head IsListed first told b))
+    (All-tail IsListed first told b)
 listed_merged (r ∷ next ∷ saved) told a b =
-    All-cons IsListed r (merged (next ∷ saved) told) (All-head IsListed r (next ∷ saved) a) (listed_merged (next ∷ saved) told (All-tail IsListed r (next ∷ saved) a) b)
+    All-cons IsListed r (merged (next ∷ saved) told) (All-head IsListed r (next ∷ saved) a)
+    (listed_merged (next ∷ saved) told (All-tail IsListed r (next ∷ saved) a) b)
 
 pub listed_saved : (reports : List RegionReport) → Each ReportFits reports → All IsListed reports
 listed_saved [] each = All-nil IsListed
@@ -138,7 +130,8 @@ listed_saved (r ∷ reports) each = All-cons IsListed r reports each.0.listed (l
 
 numbers_small : (low high : ℕ) (ns : List ℕ) → high ≤ 1000000000 → AscendWithin low high ns → All (λ i. i < 2 ^ 63) ns
 numbers_small low high [] top h = All-nil (λ i. i < 2 ^ 63)
-numbers_small low high (i ∷ rest) top h = All-cons (λ j. j < 2 ^ 63) i rest (let lt : i < high = h.1 in omega (arith, lt, top)) (numbers_small (suc i) high rest top h.2)
+numbers_small low high (i ∷ rest) top h =
+    All-cons (λ j. j < 2 ^ 63) i rest (let lt : i < high = h.1 in omega (arith, lt, top)) (numbers_small (suc i) high rest top h.2)
 
 report_small : (r : RegionReport) → ReportFits r → IsSmall r
 report_small r f = record {
@@ -157,7 +150,8 @@ below_filter : (test : ℕ → Bool) (first count : ℕ) → first + count < 2 ^
 below_filter test first zero h = All-nil (λ i. i < 2 ^ 63)
 below_filter test first (suc count) h = by (test first) (below_filter test (first + 1) count (omega (arith, h)))
   where
-    by : (b : Bool) → All (λ i. i < 2 ^ 63) (filter test (numbers_from (first + 1) count)) → All (λ i. i < 2 ^ 63) (if b then first ∷ filter test (numbers_from (first + 1) count) else filter test (numbers_from (first + 1) count))
+    by : (b : Bool) → All (λ i. i < 2 ^ 63) (filter test (numbers_from (first + 1) count)) →
+        All (λ i. i < 2 ^ 63) (if b then first ∷ filter test (numbers_from (first + 1) count) else filter test (numbers_from (first + 1) count))
     by true more = All-cons (λ j. j < 2 ^ 63) first (filter test (numbers_from (first + 1) count)) (omega (arith, h)) more
     by false more = more
 
@@ -168,10 +162,12 @@ run_small p run plan few =
     record {
       iterations = omega (arith, begun, few);
       count = omega (arith, begun, again, few);
-      numbers = All-take (λ i. i < 2 ^ 63) LISTED (recovered p plan run) (below_filter (is_recovered p plan run) 0 (begun_count run plan.region) (omega (arith, begun, few)));
+      numbers = All-take (λ i. i < 2 ^ 63) LISTED (recovered p plan run) (below_filter (is_recovered p plan run) 0 (begun_count run plan.region)
+          (omega (arith, begun, few)));
       listed = let le = min-le_left LISTED (length (recovered p plan run)) in omega (arith, length-take LISTED (recovered p plan run), le);
     }
 
 pub told_small : (p : Program) (run : Run) (plans : List Plan) → run.fuel ≤ 1000000000 → All IsSmall (told_reports false p plans run)
 told_small p run [] few = All-nil IsSmall
-told_small p run (plan ∷ plans) few = All-cons IsSmall (told_when false (region_report p plan run)) (told_reports false p plans run) (run_small p run plan few) (told_small p run plans few)
+told_small p run (plan ∷ plans) few =
+    All-cons IsSmall (told_when false (region_report p plan run)) (told_reports false p plans run) (run_small p run plan few) (told_small p run plans few)

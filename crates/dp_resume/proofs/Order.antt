@@ -17,7 +17,8 @@ use Rattle.dp_theorem.proofs.Placed.{not_at_head}
 use Rattle.dp_theorem.proofs.Regions.{all_alone}
 
 -- the statements from region r on, where none is before them
-pub from_front : (r : ℕ) (front : List Stmt) (s : Stmt) (tail : List Stmt) → all_free r front ≡ true → is_region r (out-Stmt s) ≡ true → statements_from r (front ++ s ∷ tail) ≡ s ∷ tail
+pub from_front : (r : ℕ) (front : List Stmt) (s : Stmt) (tail : List Stmt) → all_free r front ≡ true → is_region r (out-Stmt s) ≡ true →
+    statements_from r (front ++ s ∷ tail) ≡ s ∷ tail
 from_front r [] s tail free here = ap (λ (b : Bool). if b then s ∷ tail else statements_from r tail) here
 from_front r (x ∷ xs) s tail free here =
     let both = and_parts (is_free r x) (all_free r xs) free in
@@ -67,6 +68,8 @@ free_from r q k (x ∷ rest) e less = by (is_region q (out-Stmt x)) refl (free_f
     parts : (top_fits k x ≡ true) × (regions_in_order (next_region k x) rest ≡ true)
     parts = and_parts (top_fits k x) (regions_in_order (next_region k x) rest) e
 
-    by : (b : Bool) → is_region q (out-Stmt x) ≡ b → all_free r (statements_from q rest) ≡ true → all_free r (if b then x ∷ rest else statements_from q rest) ≡ true
-    by true here later = order_free r k (x ∷ rest) e (all_alone r k (x ∷ rest) e) (let same = number_here q k x (top x) parts.0 here in omega (arith, same, less))
+    by : (b : Bool) → is_region q (out-Stmt x) ≡ b → all_free r (statements_from q rest) ≡ true →
+        all_free r (if b then x ∷ rest else statements_from q rest) ≡ true
+    by true here later = order_free r k (x ∷ rest) e (all_alone r k (x ∷ rest) e) (let same = number_here q k x (top x) parts.0 here in
+        omega (arith, same, less))
     by false here later = later

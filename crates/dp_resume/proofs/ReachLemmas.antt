@@ -1,5 +1,6 @@
 -- A region that is brought up to an iteration: where each iteration leads, and what is left to be printed.
-use Rattle.std.proofs.Common.{◌≡◌, refl, sym, ap, ◌∙◌, subst, ℕ, zero, suc, ◌+◌, ◌≤◌, Bool, true, false, ◌||◌, List, [], ◌∷◌, ◌++◌, ℤ, length, Option, Some, None, is_some, slice_get, nat_lt, append_assoc, arith, rules}
+use Rattle.std.proofs.Common.{◌≡◌, refl, sym, ap, ◌∙◌, subst, ℕ, zero, suc, ◌+◌, ◌≤◌, Bool, true, false, ◌||◌, List, [], ◌∷◌, ◌++◌, ℤ, length, Option, Some}
+use Rattle.std.proofs.Common.{None, is_some, slice_get, nat_lt, append_assoc, arith, rules}
 use Rattle.std.proofs.lemmas.List.{append_cancel_left}
 use Rattle.std.proofs.lemmas.Option.{slice_get_past}
 use Rattle.dp_tree.specs.declared.Program.{Program}
@@ -27,8 +28,8 @@ use Rattle.dp_epoch.specs.RegionRun.{RegionRan}
 use Rattle.dp_epoch.proofs.Here.{closes_once, starts_here}
 use Rattle.dp_audit.specs.declared.group.Group.{Group}
 use Rattle.dp_audit.specs.declared.runner.Runner.{Runner}
-use Rattle.dp_audit.specs.Groups.{Gives, HasEnded, IsGroup, StandsBehind, is_left, is_over}
-use Rattle.dp_audit.specs.Runs.{Stands}
+use Rattle.dp_audit.specs.Groups.{GivesGroup, RegionHasEnded, IsGroup, StandsBehind, is_left, is_iteration_over}
+use Rattle.dp_audit.specs.Runs.{RegionStands}
 use Rattle.dp_crew.specs.Output.{Emits}
 use Rattle.dp_crew.proofs.StreamLemmas.{emits_nothing}
 use Rattle.dp_run.specs.Stretches.{to_come}
@@ -65,7 +66,8 @@ no_within : (fuel k : ℕ) (o : Option ℕ) → o ≡ Some k → is_within fuel 
 no_within fuel k o e h = let off : nat_lt k fuel ≡ false = sym (ap (is_within fuel) e) ∙ h in search rules
 
 -- behind an iteration that isn't begun there is none
-unbegun : (first : MachineState) (r n k : ℕ) → start (region_run first) r n ≡ Some k → is_begun (region_run first) r n ≡ false → start (region_run first) r (suc n) ≡ None
+unbegun : (first : MachineState) (r n k : ℕ) → start (region_run first) r n ≡ Some k → is_begun (region_run first) r n ≡ false →
+    start (region_run first) r (suc n) ≡ None
 unbegun first r n k here off = by (start (region_run first) r (suc n)) refl
   where
     high : (region_run first).fuel ≤ k
@@ -89,23 +91,28 @@ module _ (run old new : Run) (before it : List Event) (cs ds : List Config) (c :
   prints_step : prints old.trace ≡ prints it ++ prints new.trace
   prints_step =
       append_cancel_left (prints before) (prints old.trace) (prints it ++ prints new.trace)
-      (sym (prints_on run old before cs c) ∙ prints_on run new (before ++ it) ds d ∙ ap (λ (zs : List ℤ). zs ++ prints new.trace) (prints-append before it) ∙ append_assoc (prints before) (prints it) (prints new.trace))
+      (sym (prints_on run old before cs c) ∙ prints_on run new (before ++ it) ds d ∙ ap (λ (zs : List ℤ). zs ++ prints new.trace) (prints-append before it)
+      ∙ append_assoc (prints before) (prints it) (prints new.trace))
 
-prints_none : (run old new : Run) (before : List Event) (cs ds : List Config) → Continues run before cs old → Continues run before ds new → prints old.trace ≡ prints new.trace
-prints_none run old new before cs ds c d = append_cancel_left (prints before) (prints old.trace) (prints new.trace) (sym (prints_on run old before cs c) ∙ prints_on run new before ds d)
+prints_none : (run old new : Run) (before : List Event) (cs ds : List Config) → Continues run before cs old → Continues run before ds new →
+    prints old.trace ≡ prints new.trace
+prints_none run old new before cs ds c d =
+    append_cancel_left (prints before) (prints old.trace) (prints new.trace) (sym (prints_on run old before cs c) ∙ prints_on run new before ds d)
 
 -- ---- one iteration
 
-module _ (p : Program) (plan : Plan) (input : List ℤ) (first : MachineState) (n : ℕ) (old new : Runner) (s : Stands p plan input first n old) where
+module _ (p : Program) (plan : Plan) (input : List ℤ) (first : MachineState) (n : ℕ) (old new : Runner) (s : RegionStands p plan input first n old) where
   abbrev run : Run
   run = region_run first
 
   -- the run goes on from here
-  piece_at : (c : CommittedState) (account : Account) (k : ℕ) → Progress plan first c account → c.count ≡ k → (cs : List Config) × Continues (region_run first) (events_of_first (region_run first) plan.region k) cs (rest_of_run c.machine)
+  piece_at : (c : CommittedState) (account : Account) (k : ℕ) → Progress plan first c account → c.count ≡ k → (cs : List Config)
+      × Continues (region_run first) (events_of_first (region_run first) plan.region k) cs (rest_of_run c.machine)
   piece_at c account k g count = (
     g.holds.configs,
     subst (λ (r : ℕ). Continues (region_run first) (events_of_first (region_run first) r k) g.holds.configs (rest_of_run c.machine)) g.region
-        (subst (λ (m : ℕ). Continues (region_run first) (events_of_first (region_run first) c.region m) g.holds.configs (rest_of_run c.machine)) count g.holds.piece),
+        (subst (λ (m : ℕ). Continues (region_run first) (events_of_first (region_run first) c.region m) g.holds.configs (rest_of_run c.machine))
+        count g.holds.piece),
   )
 
   pub old_piece : (cs : List Config) × Continues (region_run first) (events_of_first (region_run first) plan.region n) cs (rest_of_run (machine_of old))
@@ -113,28 +120,36 @@ module _ (p : Program) (plan : Plan) (input : List ℤ) (first : MachineState) (
 
   started : (k : ℕ) × (start (region_run first) plan.region n ≡ Some k)
   started =
-      let k = steps_of_first (region_run first) plan.region old.ledger.committed.count in
-      (steps_of_first (region_run first) plan.region old.ledger.committed.count, subst (λ (m : ℕ). start (region_run first) plan.region m ≡ Some k) s.count (starts_here plan first old.ledger.committed old.ledger.account s.progress))
+      let k = steps_of_first (region_run first) plan.region old.ledger.committed.count in (
+        steps_of_first (region_run first) plan.region old.ledger.committed.count,
+        subst (λ (m : ℕ). start (region_run first) plan.region m ≡ Some
+            k) s.count (starts_here plan first old.ledger.committed old.ledger.account s.progress),
+      )
 
-  ended_piece : (k : ℕ) (end : RegionEnd) (h : HasEnded plan first k new end) → Continues (region_run first) (events_of_first (region_run first) plan.region k) h.done.ran.made.configs (rest_of_run (machine_of new))
-  ended_piece k end h = subst (λ (m : ℕ). Continues (region_run first) (events_of_first (region_run first) plan.region m) h.done.ran.made.configs (rest_of_run (machine_of new))) h.begun h.done.ran.made.piece
+  ended_piece : (k : ℕ) (end : RegionEnd) (h : RegionHasEnded plan first k new end) →
+      Continues (region_run first) (events_of_first (region_run first) plan.region k) h.done.ran.made.configs (rest_of_run (machine_of new))
+  ended_piece k end h = subst (λ (m : ℕ). Continues (region_run first) (events_of_first (region_run first) plan.region m) h.done.ran.made.configs
+      (rest_of_run (machine_of new))) h.begun h.done.ran.made.piece
 
   plus : suc n ≡ n + 1
   plus = omega arith
 
-  ends_before : (k : ℕ) (end : RegionEnd) → HasEnded plan first k new end → start (region_run first) plan.region (suc n) ≡ None → EndsBefore p plan first (machine_of new) (n + 1) new.ledger.account.report end
+  ends_before : (k : ℕ) (end : RegionEnd) → RegionHasEnded plan first k new end → start (region_run first) plan.region (suc n) ≡ None →
+      EndsBefore p plan first (machine_of new) (n + 1) new.ledger.account.report end
   ends_before k end h none = record {
     ran = subst (λ (q : Program). RegionRan q plan first (machine_of new) end) s.kept.program_is h.done.ran;
-    report_is = ap (told_when false) h.done.report_is ∙ no_causes new.ledger.account.why (region_report first.program plan (region_run first)) ∙ ap (λ (q : Program). told_when false (region_report q plan (region_run first))) s.kept.program_is;
+    report_is = ap (told_when false) h.done.report_is ∙ no_causes new.ledger.account.why (region_report first.program plan (region_run first))
+        ∙ ap (λ (q : Program). told_when false (region_report q plan (region_run first))) s.kept.program_is;
     unreached = ap (start (region_run first) plan.region) (sym plus) ∙ none;
   }
 
   -- The fuel is spent before it.
-  pub spent : Gives p plan input first n new None → Steps p plan input first n new (Some region_end.Fuel)
+  pub spent : GivesGroup p plan input first n new None → Steps p plan input first n new (Some region_end.Fuel)
   spent g = ends_before n region_end.Fuel g.1 (unbegun first plan.region n started.0 started.1 g.0)
 
-  pub spent_prints : Gives p plan input first n new None → to_come (machine_of old) ≡ to_come (machine_of new)
-  spent_prints g = prints_none (region_run first) (rest_of_run (machine_of old)) (rest_of_run (machine_of new)) (events_of_first (region_run first) plan.region n) old_piece.0 g.1.done.ran.made.configs old_piece.1 (ended_piece n region_end.Fuel g.1)
+  pub spent_prints : GivesGroup p plan input first n new None → to_come (machine_of old) ≡ to_come (machine_of new)
+  spent_prints g = prints_none (region_run first) (rest_of_run (machine_of old)) (rest_of_run (machine_of new))
+      (events_of_first (region_run first) plan.region n) old_piece.0 g.1.done.ran.made.configs old_piece.1 (ended_piece n region_end.Fuel g.1)
 
   closed_next : is_closing (region_run first) plan.region n ≡ true → start (region_run first) plan.region (suc n) ≡ None
   closed_next closing = ap (start (region_run first) plan.region) plus ∙ closes_once plan first s.progress.start n started.0 started.1 closing
@@ -143,36 +158,40 @@ module _ (p : Program) (plan : Plan) (input : List ℤ) (first : MachineState) (
   stopped_next off = none_ended (start (region_run first) plan.region (suc n)) (is_closing (region_run first) plan.region n) off
 
   -- Where an iteration that was made leads.
-  leads : (end : IterEnd) (group : Group) → group.end ≡ end → IsGroup p plan (region_run first) n group → StandsBehind p plan input first (n + 1) new end → Steps p plan input first n new (ended_so end)
+  leads : (end : IterEnd) (group : Group) → group.end ≡ end → IsGroup p plan (region_run first) n group → StandsBehind p plan input first (n + 1) new end →
+      Steps p plan input first n new (ended_so end)
   leads Next group e g behind = behind
   leads Closed group e g behind = ends_before (n + 1) region_end.Closed behind (closed_next (g.left ∙ ap is_left e))
-  leads (Fault fault) group e g behind = ends_before (n + 1) (region_end.Fault fault) behind (stopped_next (g.over ∙ ap is_over e))
-  leads Fuel group e g behind = ends_before (n + 1) region_end.Fuel behind (stopped_next (g.over ∙ ap is_over e))
+  leads (Fault fault) group e g behind = ends_before (n + 1) (region_end.Fault fault) behind (stopped_next (g.over ∙ ap is_iteration_over e))
+  leads Fuel group e g behind = ends_before (n + 1) region_end.Fuel behind (stopped_next (g.over ∙ ap is_iteration_over e))
   leads Going group e g behind = absurd behind
 
-  pub made : (group : Group) → Gives p plan input first n new (Some group) → Steps p plan input first n new (ended_so group.end)
+  pub made : (group : Group) → GivesGroup p plan input first n new (Some group) → Steps p plan input first n new (ended_so group.end)
   made group g = leads group.end group refl g.0 g.1
 
-  new_piece : (end : IterEnd) → StandsBehind p plan input first (n + 1) new end → (cs : List Config) × Continues (region_run first) (events_of_first (region_run first) plan.region (n + 1)) cs (rest_of_run (machine_of new))
+  new_piece : (end : IterEnd) → StandsBehind p plan input first (n + 1) new end → (cs : List Config)
+      × Continues (region_run first) (events_of_first (region_run first) plan.region (n + 1)) cs (rest_of_run (machine_of new))
   new_piece Next behind = piece_at new.ledger.committed new.ledger.account (n + 1) behind.progress behind.count
   new_piece Closed behind = (behind.done.ran.made.configs, ended_piece (n + 1) region_end.Closed behind)
   new_piece (Fault fault) behind = (behind.done.ran.made.configs, ended_piece (n + 1) (region_end.Fault fault) behind)
   new_piece Fuel behind = (behind.done.ran.made.configs, ended_piece (n + 1) region_end.Fuel behind)
   new_piece Going behind = absurd behind
 
-  pub made_prints : (group : Group) → Gives p plan input first n new (Some group) → to_come (machine_of old) ≡ group.prints ++ to_come (machine_of new)
+  pub made_prints : (group : Group) → GivesGroup p plan input first n new (Some group) → to_come (machine_of old) ≡ group.prints ++ to_come (machine_of new)
   made_prints group g =
       let q = new_piece group.end g.1 in
-      let d : Continues (region_run first) (events_of_first (region_run first) plan.region n ++ iteration (region_run first) plan.region n) q.0 (rest_of_run (machine_of new)) =
+      let d : Continues (region_run first) (events_of_first (region_run first) plan.region n ++ iteration (region_run first) plan.region n) q.0
+      (rest_of_run (machine_of new)) =
       subst (λ (m : ℕ). Continues (region_run first) (events_of_first (region_run first) plan.region m) q.0 (rest_of_run (machine_of new))) (sym plus) q.1 in
-      prints_step (region_run first) (rest_of_run (machine_of old)) (rest_of_run (machine_of new)) (events_of_first (region_run first) plan.region n) (iteration (region_run first) plan.region n) old_piece.0 q.0 old_piece.1 d
+      prints_step (region_run first) (rest_of_run (machine_of old)) (rest_of_run (machine_of new)) (events_of_first (region_run first) plan.region n)
+      (iteration (region_run first) plan.region n) old_piece.0 q.0 old_piece.1 d
       ∙ ap (λ (zs : List ℤ). zs ++ to_come (machine_of new)) (sym g.0.prints_are)
 
 -- ---- several iterations
 
 -- how far so many iterations lead
 abbrev pub Reached : Program → Plan → List ℤ → MachineState → ℕ → Runner → Option RegionEnd → Type 0
-Reached p plan input first made r None = Stands p plan input first made r
+Reached p plan input first made r None = RegionStands p plan input first made r
 Reached p plan input first made r (Some end) = EndsBefore p plan first (machine_of r) made r.ledger.account.report end
 
 module _ (p : Program) (plan : Plan) (input : List ℤ) (first : MachineState) where
@@ -180,7 +199,7 @@ module _ (p : Program) (plan : Plan) (input : List ℤ) (first : MachineState) w
   reached_step n r None s = s
   reached_step n r (Some end) s = s
 
-  stands_before : (n : ℕ) (r : Runner) → Stands p plan input first n r → StandsBefore plan first (machine_of r) n r.ledger.account.report
+  stands_before : (n : ℕ) (r : Runner) → RegionStands p plan input first n r → StandsBefore plan first (machine_of r) n r.ledger.account.report
   stands_before n r s = record {
     committed = r.ledger.committed;
     account = r.ledger.account;
@@ -193,15 +212,19 @@ module _ (p : Program) (plan : Plan) (input : List ℤ) (first : MachineState) w
   }
 
   -- all that were to be made, or the region's end
-  pub reached_all : (made after : ℕ) (r : Runner) (end : Option RegionEnd) → Reached p plan input first made r end → made ≤ after → (end ≡ None → after ≤ made) → Stops p plan first after (machine_of r) r.ledger.account.report end
+  pub reached_all : (made after : ℕ) (r : Runner) (end : Option RegionEnd) → Reached p plan input first made r end → made ≤ after →
+      (end ≡ None → after ≤ made) → Stops p plan first after (machine_of r) r.ledger.account.report end
   reached_all made after r None s low high =
-      let same : made ≡ after = let le = high refl in omega (arith, low, le) in subst (λ (k : ℕ). StandsBefore plan first (machine_of r) k r.ledger.account.report) same (stands_before made r s)
-  reached_all made after r (Some end) s low high = record { ran = s.ran; report_is = s.report_is; unreached = start_later (region_run first) plan.region made after low s.unreached }
+      let same : made ≡ after = let le = high refl in omega (arith, low, le) in
+      subst (λ (k : ℕ). StandsBefore plan first (machine_of r) k r.ledger.account.report) same (stands_before made r s)
+  reached_all made after r (Some end) s low high =
+      record { ran = s.ran; report_is = s.report_is; unreached = start_later (region_run first) plan.region made after low s.unreached }
 
   -- before the first one nothing was made
-  pub begun_prints : (r : Runner) → Stands p plan input first 0 r → to_come (machine_of r) ≡ to_come first
+  pub begun_prints : (r : Runner) → RegionStands p plan input first 0 r → to_come (machine_of r) ≡ to_come first
   begun_prints r s =
-      let q = piece_at p plan input first 0 r r s r.ledger.committed r.ledger.account 0 s.progress s.count in sym (prints_on (region_run first) (rest_of_run (machine_of r)) [] q.0 q.1)
+      let q = piece_at p plan input first 0 r r s r.ledger.committed r.ledger.account 0 s.progress s.count in
+      sym (prints_on (region_run first) (rest_of_run (machine_of r)) [] q.0 q.1)
 
 -- ---- what waits
 

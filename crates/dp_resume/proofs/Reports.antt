@@ -1,5 +1,6 @@
 -- What is reported of each region: before the checkpoint, and by the run that goes on from it.
-use Rattle.std.proofs.Common.{◌≡◌, refl, sym, ap, ◌∙◌, subst, ℕ, zero, suc, ◌+◌, ◌-◌, ◌<◌, ◌==◌, Bool, true, false, not, List, [], ◌∷◌, ◌++◌, ℤ, length, map, take, filter, Option, Some, None, is_some, slice_get, count_by, nat_lt, arith, rules, tests}
+use Rattle.std.proofs.Common.{◌≡◌, refl, sym, ap, ◌∙◌, subst, ℕ, zero, suc, ◌+◌, ◌-◌, ◌<◌, ◌==◌, Bool, true, false, not, List, [], ◌∷◌, ◌++◌, ℤ, length, map}
+use Rattle.std.proofs.Common.{take, filter, Option, Some, None, is_some, slice_get, count_by, nat_lt, arith, rules, tests}
 use Rattle.std.specs.Prelude.{if◌then◌else◌}
 use Rattle.dp_base.specs.declared.RegionReport.{RegionReport}
 use Rattle.dp_base.specs.declared.limits.TheConstants.{LISTED}
@@ -43,7 +44,8 @@ module _ (p : Program) (plan : Plan) (run : Run) (begins others : ℕ → Bool) 
   again_same i = ap (λ (e : ℕ). not (is_clean p plan run e i)) (epochs_same i)
 
   pub listed_same : recovered_with begins p plan run ≡ recovered_with others p plan run
-  listed_same = filter_same (is_recovered_with begins p plan run) (is_recovered_with others p plan run) again_same (numbers_from 0 (begun_count run plan.region))
+  listed_same = filter_same (is_recovered_with begins p plan run) (is_recovered_with others p plan run) again_same
+      (numbers_from 0 (begun_count run plan.region))
 
 -- what is told of a report without its causes
 abbrev told : ℕ → ℕ → ℕ → List ℕ → RegionReport
@@ -60,9 +62,11 @@ here_on n = let same : (n == n) ≡ true = search (rules, tests) in same
 
 -- ---- the region of the checkpoint
 
-module _ (p : Program) (plan : Plan) (n k : ℕ) (run rest : Run) (goes : GoesOnAs plan.region n k run rest) (reached : is_some (start rest plan.region 0) ≡ true) where
+module _ (p : Program) (plan : Plan) (n k : ℕ) (run rest : Run) (goes : GoesOnAs plan.region n k run rest)
+    (reached : is_some (start rest plan.region 0) ≡ true) where
   -- What was saved is gone on with.
-  pub own_report : uncaused (gone_on (uncaused (report_first_with nowhere p plan run n)) (region_report p plan rest)) ≡ uncaused (region_report_with (before_iteration n) p plan run)
+  pub own_report : uncaused (gone_on (uncaused (report_first_with nowhere p plan run n)) (region_report p plan rest)) ≡ uncaused
+      (region_report_with (before_iteration n) p plan run)
   own_report =
       let whole = (reports_go_on p plan (before_iteration n) n k run rest goes reached (begins_there p plan (before_iteration n) run n (here_on n))).whole in
       let first = (later_changes_nothing p plan (before_iteration n) nowhere run n (earlier_off n)).report in
@@ -74,7 +78,8 @@ module _ (p : Program) (plan : Plan) (n k : ℕ) (run rest : Run) (goes : GoesOn
 
 -- ---- a later region
 
-module _ (p : Program) (inlined : IsInlined p) (input : List ℤ) (fuel : ℕ) (plan : Plan) (planned : IsPlan p plan) (n k : ℕ) (starts_so : start (source_run p input fuel) plan.region n ≡ Some k)
+module _ (p : Program) (inlined : IsInlined p) (input : List ℤ) (fuel : ℕ) (plan : Plan) (planned : IsPlan p plan) (n k : ℕ)
+    (starts_so : start (source_run p input fuel) plan.region n ≡ Some k)
     (later : Plan) (is : IsPlan p later) (less : plan.region < later.region) where
   abbrev run : Run
   run = source_run p input fuel

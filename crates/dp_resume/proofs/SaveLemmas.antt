@@ -1,5 +1,6 @@
 -- Where a region that is to be left before an iteration leads: to a checkpoint of the source's run, or to the region's end.
-use Rattle.std.proofs.Common.{◌≡◌, refl, sym, ap, ◌∙◌, subst, inl, ℕ, zero, suc, ◌+◌, ◌-◌, ◌≤◌, true, List, [], ◌∷◌, ◌++◌, ℤ, length, map, take, Some, None, false, slice_get, length-append, arith}
+use Rattle.std.proofs.Common.{◌≡◌, refl, sym, ap, ◌∙◌, subst, inl, ℕ, zero, suc, ◌+◌, ◌-◌, ◌≤◌, true, List, [], ◌∷◌, ◌++◌, ℤ, length, map, take, Some, None}
+use Rattle.std.proofs.Common.{false, slice_get, length-append, arith}
 use Rattle.std.specs.Fmt.{signed_decimal}
 use Rattle.std.specs.List.{flat_map}
 use Rattle.std.proofs.lemmas.List.{append_cancel_right, map-append}
@@ -55,10 +56,12 @@ words_uncaused (r ∷ reports) = ap (λ (ws : List (List (List ℕ))). report_wo
 abbrev pub saved_so : ℕ → ℕ → ℕ → ℕ → List ℤ → List RegionReport → Checkpoint
 saved_so region after steps fuel cells reports = record { region = region; after = after; steps = steps; fuel = fuel; cells = cells; reports = reports }
 
-pub text_uncaused : (region after steps fuel : ℕ) (cells : List ℤ) (reports : List RegionReport) → checkpoint_bytes (saved_so region after steps fuel cells (map uncaused reports)) ≡ checkpoint_bytes (saved_so region after steps fuel cells reports)
+pub text_uncaused : (region after steps fuel : ℕ) (cells : List ℤ) (reports : List RegionReport) →
+    checkpoint_bytes (saved_so region after steps fuel cells (map uncaused reports)) ≡ checkpoint_bytes (saved_so region after steps fuel cells reports)
 unfolding checkpoint_bytes
 text_uncaused region after steps fuel cells reports =
-    ap (λ (ws : List (List (List ℕ))). flat_map line_bytes (head_words ∷ place_words (saved_so region after steps fuel cells []) ∷ cells_words (map signed_decimal cells) ∷ (ws ++ end_words ∷ [])))
+    ap (λ (ws : List (List (List ℕ))). flat_map line_bytes (head_words ∷ place_words (saved_so region after steps fuel cells [])
+    ∷ cells_words (map signed_decimal cells) ∷ (ws ++ end_words ∷ [])))
     (words_uncaused reports)
 
 -- ---- the reports of the regions before
@@ -70,7 +73,8 @@ before_saved p run r n first count [] (suc m) numbers low = refl
 before_saved p run r n first zero (plan ∷ plans) (suc m) numbers low = absurd (cc numbers)
 before_saved p run r n first (suc count) (plan ∷ plans) (suc m) numbers low =
     let number : plan.region ≡ first = cc numbers in let others : map region_of plans ≡ numbers_from (first + 1) count = cc numbers in
-    ap (λ (x : RegionReport). x ∷ map uncaused (region_reports p (take m plans) run)) (sym (ap uncaused (if_other plan.region r _ (region_report p plan run) (inl (omega (arith, number, low))))))
+    ap (λ (x : RegionReport). x ∷ map uncaused (region_reports p (take m plans) run))
+    (sym (ap uncaused (if_other plan.region r _ (region_report p plan run) (inl (omega (arith, number, low))))))
     ∙ ap (λ (xs : List RegionReport). saved_report p run r n plan ∷ xs) (before_saved p run r n (first + 1) count plans m others (omega (arith, low)))
 
 pub take_next : {X : Type 0} (xs : List X) (n : ℕ) (x : X) → slice_get xs n ≡ Some x → take (suc n) xs ≡ take n xs ++ x ∷ []
@@ -80,7 +84,8 @@ take_next {X = X} (y ∷ xs) (suc n) x e = ap (λ (zs : List X). y ∷ zs) (take
 
 -- ---- the region in the source's run
 
-module _ (p : Program) (plan : Plan) (input : List ℤ) (fuel n : ℕ) (first : MachineState) (planned : IsPlanned p plan) (number : plan.region ≡ suc n) (b : Between p input fuel (source_run p input fuel) n first) where
+module _ (p : Program) (plan : Plan) (input : List ℤ) (fuel n : ℕ) (first : MachineState) (planned : IsPlanned p plan) (number : plan.region ≡ suc n)
+    (b : Between p input fuel (source_run p input fuel) n first) where
   abbrev run : Run
   run = source_run p input fuel
 
@@ -132,7 +137,8 @@ module _ (p : Program) (plan : Plan) (input : List ℤ) (fuel n : ℕ) (first : 
   pub report_whole : region_report p plan (region_run first) ≡ region_report p plan (source_run p input fuel)
   report_whole = report_is p plan input fuel run n first number b here
 
-  pub behind_it : (last : MachineState) (end : RegionEnd) (i : ℕ) (report : RegionReport) → EndsBefore p plan first last i report end → AfterRegion p input fuel (source_run p input fuel) (suc n) last end
+  pub behind_it : (last : MachineState) (end : RegionEnd) (i : ℕ) (report : RegionReport) → EndsBefore p plan first last i report end →
+      AfterRegion p input fuel (source_run p input fuel) (suc n) last end
   behind_it last end i report e = after_region p plan input fuel run n first planned number b last end e.ran
 
   -- ---- where it was left
@@ -144,10 +150,13 @@ module _ (p : Program) (plan : Plan) (input : List ℤ) (fuel n : ℕ) (first : 
     inner : Continues (region_run first) (events_of_first (region_run first) plan.region after) s.progress.holds.configs (rest_of_run last)
     inner =
         subst (λ (m : MachineState). Continues (region_run first) fs s.progress.holds.configs (rest_of_run m)) s.machine_is
-        (subst (λ (k : ℕ). Continues (region_run first) (events_of_first (region_run first) plan.region k) s.progress.holds.configs (rest_of_run s.committed.machine)) s.count
-        (subst (λ (r : ℕ). Continues (region_run first) (events_of_first (region_run first) r s.committed.count) s.progress.holds.configs (rest_of_run s.committed.machine)) s.progress.region s.progress.holds.piece))
+        (subst (λ (k : ℕ). Continues (region_run first) (events_of_first (region_run first) plan.region k) s.progress.holds.configs
+        (rest_of_run s.committed.machine)) s.count
+        (subst (λ (r : ℕ). Continues (region_run first) (events_of_first (region_run first) r s.committed.count) s.progress.holds.configs
+        (rest_of_run s.committed.machine)) s.progress.region s.progress.holds.piece))
 
-    joined : Continues (source_run p input fuel) (b.behind.passed.events ++ events_of_first (region_run first) plan.region after) (b.behind.passed.configs ++ s.progress.holds.configs) (rest_of_run last)
+    joined : Continues (source_run p input fuel) (b.behind.passed.events ++ events_of_first (region_run first) plan.region after) (b.behind.passed.configs
+        ++ s.progress.holds.configs) (rest_of_run last)
     joined = continues_join run (rest_of_run first) (rest_of_run last) es fs b.behind.passed.configs s.progress.holds.configs b.behind.passed.piece inner
 
     abbrev pub steps : ℕ
@@ -160,7 +169,8 @@ module _ (p : Program) (plan : Plan) (input : List ℤ) (fuel n : ℕ) (first : 
     pub starts_there : start (source_run p input fuel) plan.region after ≡ Some steps
     starts_there =
         started after
-        ∙ ap (moved (length es + 0)) (subst (λ (k : ℕ). start (region_run first) plan.region k ≡ Some (steps_of_first (region_run first) plan.region k)) s.count (starts_here plan first s.committed s.account s.progress))
+        ∙ ap (moved (length es + 0)) (subst (λ (k : ℕ). start (region_run first) plan.region k ≡ Some (steps_of_first (region_run first) plan.region k)) s.count
+        (starts_here plan first s.committed s.account s.progress))
 
     fuel_same : last.fuel ≡ first.fuel
     fuel_same = ap (λ (m : MachineState). m.fuel) (sym s.machine_is) ∙ s.progress.holds.fuel
@@ -177,7 +187,8 @@ module _ (p : Program) (plan : Plan) (input : List ℤ) (fuel n : ℕ) (first : 
     cells_there =
         let begins = run_begins last.program last.input (fuel_left last) last.config in
         let place : length (es ++ fs) + 0 ≡ steps = omega (arith, steps_are) in
-        ap (cells_after run) (sym place) ∙ ap cells_in (config_at run (rest_of_run last) (es ++ fs) (b.behind.passed.configs ++ s.progress.holds.configs) joined 0) ∙ ap (λ (cs : List Config). cells_in (slice_get cs 0)) begins.1
+        ap (cells_after run) (sym place) ∙ ap cells_in (config_at run (rest_of_run last) (es ++ fs) (b.behind.passed.configs ++ s.progress.holds.configs) joined
+        0) ∙ ap (λ (cs : List Config). cells_in (slice_get cs 0)) begins.1
 
     -- what is to be printed up to there
     prints_there : take (steps - made_by first) (rest_of_run first).trace ≡ events_of_first (region_run first) plan.region after
@@ -187,29 +198,36 @@ module _ (p : Program) (plan : Plan) (input : List ℤ) (fuel n : ℕ) (first : 
 
     pub written_there : (w : List ℤ) → to_come first ≡ w ++ to_come last → w ≡ prints (take (steps - made_by first) (rest_of_run first).trace)
     written_there w e =
-        append_cancel_right w (prints fs) (to_come last) (sym e ∙ prints_on (region_run first) (rest_of_run last) fs s.progress.holds.configs inner) ∙ ap prints (sym prints_there)
+        append_cancel_right w (prints fs) (to_come last) (sym e ∙ prints_on (region_run first) (rest_of_run last) fs s.progress.holds.configs inner)
+        ∙ ap prints (sym prints_there)
 
     report_there : report ≡ told_when false (report_first_with nowhere p plan (source_run p input fuel) after)
     report_there = s.report_is ∙ ap (told_when false) (report_first after)
 
     -- the reports are those of the checkpoint
-    pub reports_there : (plans : List Plan) (count : ℕ) → map region_of plans ≡ numbers_from 1 count → slice_get plans n ≡ Some plan → (told : List RegionReport) → told ≡ told_reports false p (take n plans) (source_run p input fuel) →
+    pub reports_there : (plans : List Plan) (count : ℕ) → map region_of plans ≡ numbers_from 1 count → slice_get plans n ≡ Some plan →
+        (told : List RegionReport) → told ≡ told_reports false p (take n plans) (source_run p input fuel) →
         map uncaused (told ++ report ∷ []) ≡ map (saved_report p (source_run p input fuel) (suc n) after) (take (suc n) plans)
     reports_there plans count numbers at told is =
         map-append uncaused told (report ∷ [])
         ∙ ap (λ (rs : List RegionReport). map uncaused rs ++ uncaused report ∷ []) is
-        ∙ ap (λ (rs : List RegionReport). rs ++ uncaused report ∷ []) (told_alike p run (take n plans) ∙ before_saved p run (suc n) after 1 count plans n numbers (omega arith))
-        ∙ ap (λ (r : RegionReport). map (saved_report p run (suc n) after) (take n plans) ++ r ∷ []) (ap uncaused report_there ∙ sym (ap uncaused (if_same plan.region (suc n) (report_first_with nowhere p plan run after) (region_report p plan run) number)))
+        ∙ ap (λ (rs : List RegionReport). rs ++ uncaused report ∷ []) (told_alike p run (take n plans)
+        ∙ before_saved p run (suc n) after 1 count plans n numbers (omega arith))
+        ∙ ap (λ (r : RegionReport). map (saved_report p run (suc n) after) (take n plans) ++ r ∷ []) (ap uncaused report_there
+        ∙ sym (ap uncaused (if_same plan.region (suc n) (report_first_with nowhere p plan run after) (region_report p plan run) number)))
         ∙ sym (map-append (saved_report p run (suc n) after) (take n plans) (plan ∷ []))
         ∙ ap (map (saved_report p run (suc n) after)) (sym (take_next plans n plan at))
 
     -- so the text is that of the checkpoint
-    pub text_there : (plans : List Plan) (count : ℕ) → map region_of plans ≡ numbers_from 1 count → slice_get plans n ≡ Some plan → (told : List RegionReport) → told ≡ told_reports false p (take n plans) (source_run p input fuel) → last.steps ≤ last.fuel →
-        checkpoint_bytes (saved_so (suc n) after last.steps last.fuel last.config.cells (told ++ report ∷ [])) ≡ checkpoint_bytes (checkpoint_at p plans input fuel (suc n) after steps)
+    pub text_there : (plans : List Plan) (count : ℕ) → map region_of plans ≡ numbers_from 1 count → slice_get plans n ≡ Some plan → (told : List RegionReport) →
+        told ≡ told_reports false p (take n plans) (source_run p input fuel) → last.steps ≤ last.fuel →
+        checkpoint_bytes (saved_so (suc n) after last.steps last.fuel last.config.cells (told ++ report ∷ [])) ≡ checkpoint_bytes
+        (checkpoint_at p plans input fuel (suc n) after steps)
     text_there plans count numbers at told is within =
         let rs : List RegionReport = map (saved_report p (source_run p input fuel) (suc n) after) (take (suc n) plans) in
         sym (text_uncaused (suc n) after last.steps last.fuel last.config.cells (told ++ report ∷ []))
-        ∙ ap (λ (xs : List RegionReport). checkpoint_bytes (saved_so (suc n) after last.steps last.fuel last.config.cells xs)) (reports_there plans count numbers at told is)
+        ∙ ap (λ (xs : List RegionReport). checkpoint_bytes (saved_so (suc n) after last.steps last.fuel last.config.cells xs))
+        (reports_there plans count numbers at told is)
         ∙ ap (λ (m : ℕ). checkpoint_bytes (saved_so (suc n) after m last.fuel last.config.cells rs)) (steps_there within)
         ∙ ap (λ (m : ℕ). checkpoint_bytes (saved_so (suc n) after steps m last.config.cells rs)) fuel_there
         ∙ ap (λ (zs : List ℤ). checkpoint_bytes (saved_so (suc n) after steps fuel zs rs)) (sym cells_there)

@@ -1,5 +1,6 @@
 -- The checkpoint where an iteration of a region starts fits the program.
-use Rattle.std.proofs.Common.{◌≡◌, refl, sym, ap, ◌∙◌, subst, ℕ, zero, suc, ◌+◌, ◌^◌, ◌<◌, ◌≤◌, ◌==◌, Bool, true, false, if◌then◌else◌, List, [], ◌∷◌, ◌++◌, ℤ, length, map, take, Some, slice_get, length-take-le, arith}
+use Rattle.std.proofs.Common.{◌≡◌, refl, sym, ap, ◌∙◌, subst, ℕ, zero, suc, ◌+◌, ◌^◌, ◌<◌, ◌≤◌, ◌==◌, Bool, true, false, if◌then◌else◌, List, [], ◌∷◌, ◌++◌, ℤ}
+use Rattle.std.proofs.Common.{length, map, take, Some, slice_get, length-take-le, arith}
 use Rattle.std.proofs.lemmas.Bool.{eqb-false}
 use Rattle.std.proofs.lemmas.List.{length-map}
 use Rattle.std.proofs.lemmas.Option.{slice_get_within}
@@ -24,7 +25,7 @@ use Rattle.dp_semantics.specs.Reported.{region_report, report_first_with}
 use Rattle.dp_semantics.specs.Verdict.{source_run}
 use Rattle.dp_theorem.proofs.Placed.{standing-length}
 use Rattle.dp_calls.specs.AtHome.{numbers_fit, stores_at_home}
-use Rattle.dp_save.specs.Fits.{BodyLocalIsZero, CellsFit, Fits, PlaceFits, ReportFits, ReportsFit, StopsHere, region_in}
+use Rattle.dp_save.specs.Fits.{BodyLocalIsZero, CellsFit, Fits, PlaceFits, ReportFits, ReportsFit, StopsHere, reported_region}
 use Rattle.dp_calls.specs.Starts.{locals_start_clear}
 use Rattle.dp_save.proofs.ReadBack.{written_only}
 use Rattle.dp_run.proofs.HeadPlaces.{found_at}
@@ -46,7 +47,8 @@ each_of_map : {X Y : Type 0} (P : Y → Type 0) (f : X → Y) (xs : List X) → 
 each_of_map P f [] h = tt
 each_of_map P f (x ∷ xs) h = (h x, each_of_map P f xs h)
 
-numbered_front : (k first count : ℕ) (plans : List Plan) → map region_of plans ≡ numbers_from first count → map region_of (take k plans) ≡ numbers_from first (length (take k plans))
+numbered_front : (k first count : ℕ) (plans : List Plan) → map region_of plans ≡ numbers_from first count →
+    map region_of (take k plans) ≡ numbers_from first (length (take k plans))
 numbered_front zero first count plans e = refl
 numbered_front (suc k) first count [] e = refl
 numbered_front (suc k) first zero (plan ∷ plans) e = absurd (cc e)
@@ -58,15 +60,16 @@ as_many : (first count : ℕ) (plans : List Plan) → map region_of plans ≡ nu
 as_many first zero [] e = refl
 as_many first zero (plan ∷ plans) e = absurd (cc e)
 as_many first (suc count) [] e = absurd (cc e)
-as_many first (suc count) (plan ∷ plans) e = let others : map region_of plans ≡ numbers_from (first + 1) count = cc e in ap suc (as_many (first + 1) count plans others)
+as_many first (suc count) (plan ∷ plans) e = let others : map region_of plans ≡ numbers_from (first + 1) count = cc e in
+    ap suc (as_many (first + 1) count plans others)
 
 -- ---- a report that is saved
 
 module _ (p : Program) (run : Run) (r n : ℕ) where
-  report_region : (plan : Plan) → region_in (saved_report p run r n plan) ≡ plan.region
+  report_region : (plan : Plan) → reported_region (saved_report p run r n plan) ≡ plan.region
   report_region plan = by (plan.region == r)
     where
-      by : (b : Bool) → region_in (uncaused (if b then report_first_with nowhere p plan run n else region_report p plan run)) ≡ plan.region
+      by : (b : Bool) → reported_region (uncaused (if b then report_first_with nowhere p plan run n else region_report p plan run)) ≡ plan.region
       by true = refl
       by false = refl
 
@@ -77,22 +80,27 @@ module _ (p : Program) (run : Run) (r n : ℕ) where
       by true = report_fits plan.region n (is_recovered_with nowhere p plan run) few
       by false = report_fits plan.region (begun_count run plan.region) (is_recovered_with nowhere p plan run) begun
 
-  saved_here : (plan : Plan) → region_in (saved_report p run r n plan) ≡ r → (saved_report p run r n plan).iterations ≡ n
+  saved_here : (plan : Plan) → reported_region (saved_report p run r n plan) ≡ r → (saved_report p run r n plan).iterations ≡ n
   saved_here plan here = by (plan.region == r) refl (sym (report_region plan) ∙ here)
     where
-      by : (b : Bool) → (plan.region == r) ≡ b → plan.region ≡ r → (uncaused (if b then report_first_with nowhere p plan run n else region_report p plan run)).iterations ≡ n
+      by : (b : Bool) → (plan.region == r) ≡ b → plan.region ≡ r →
+          (uncaused (if b then report_first_with nowhere p plan run n else region_report p plan run)).iterations ≡ n
       by true e same = refl
       by false e same = absurd (eqb-false plan.region r e same)
 
-  regions_of : (plans : List Plan) → map region_in (map (saved_report p run r n) plans) ≡ map region_of plans
+  regions_of : (plans : List Plan) → map reported_region (map (saved_report p run r n) plans) ≡ map region_of plans
   regions_of [] = refl
-  regions_of (plan ∷ plans) = ap (λ (q : ℕ). q ∷ map region_in (map (saved_report p run r n) plans)) (report_region plan) ∙ ap (λ (qs : List ℕ). plan.region ∷ qs) (regions_of plans)
+  regions_of (plan ∷ plans) = ap (λ (q : ℕ). q ∷ map reported_region (map (saved_report p run r n) plans)) (report_region plan)
+      ∙ ap (λ (qs : List ℕ). plan.region ∷ qs) (regions_of plans)
 
 -- ---- the checkpoint
 
-module _ (p : Program) (plans : List Plan) (inlined : IsInlined p) (given : ArePlans p plans) (at_home : stores_at_home p ≡ true) (starts_so : locals_start_clear p ≡ true) (fit : numbers_fit p ≡ true)
-    (input : List ℤ) (few : length input ≤ INPUT_WORDS) (wide : Each (λ z. fits z ≡ true) input) (fuel r n k : ℕ) (most : fuel ≤ FUEL) (low : 1 ≤ r) (high : r ≤ length p.regions)
-    (e : start (source_run p input fuel) r n ≡ Some k) (d : Config) (at : slice_get (source_run p input fuel).configs k ≡ Some d) (on : stands_at_head r d ≡ true) where
+module _ (p : Program) (plans : List Plan) (inlined : IsInlined p) (given : ArePlans p plans) (at_home : stores_at_home p ≡ true)
+    (starts_so : locals_start_clear p ≡ true) (fit : numbers_fit p ≡ true)
+    (input : List ℤ) (few : length input ≤ INPUT_WORDS) (wide : Each (λ z. fits z ≡ true) input) (fuel r n k : ℕ) (most : fuel ≤ FUEL) (low : 1 ≤ r)
+    (high : r ≤ length p.regions)
+    (e : start (source_run p input fuel) r n ≡ Some k) (d : Config) (at : slice_get (source_run p input fuel).configs k ≡ Some d)
+    (on : stands_at_head r d ≡ true) where
   abbrev run : Run
   run = source_run p input fuel
 
@@ -154,7 +162,8 @@ module _ (p : Program) (plans : List Plan) (inlined : IsInlined p) (given : AreP
         ∙ ap (numbers_from 1) (sym (length-map (take r plans) (saved_report p (source_run p input fuel) r n)));
     each = each_of_map ReportFits (saved_report p (source_run p input fuel) r n) (take r plans)
         (λ plan. saved_fits p (source_run p input fuel) r n (omega (arith, after_within, steps_within, most)) plan (begun_within plan.region));
-    here = each_of_map (StopsHere (checkpoint_at p plans input fuel r n k)) (saved_report p (source_run p input fuel) r n) (take r plans) (saved_here p (source_run p input fuel) r n);
+    here = each_of_map (StopsHere (checkpoint_at p plans input fuel r n k)) (saved_report p (source_run p input fuel) r n) (take r plans)
+        (saved_here p (source_run p input fuel) r n);
   }
 
   pub fits_there : Fits p (checkpoint_at p plans input fuel r n k)
@@ -166,7 +175,8 @@ pub checkpoint_fits : (p : Program) (plans : List Plan) → SavedFits p plans
 checkpoint_fits p plans given at_home starts_so fit input fuel r n k few wide most e =
     let w = region_within p given.inlined input fuel r n k e in
     let there = found_at (stands_at_head r) (source_run p input fuel).configs n k e in
-    fits_there p plans given.inlined given.plans_are at_home starts_so fit input few wide fuel r n k most w.0 (omega (arith, w.1)) e there.found there.at there.passes
+    fits_there p plans given.inlined given.plans_are at_home starts_so fit input few wide fuel r n k most w.0 (omega (arith, w.1)) e there.found
+    there.at there.passes
 
 pub checkpoint_is_read : (p : Program) (plans : List Plan) → SavedIsRead p plans
 checkpoint_is_read p plans given at_home starts_so fit input fuel r n k few wide most e =

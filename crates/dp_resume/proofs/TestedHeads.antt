@@ -40,10 +40,13 @@ module _ (test : Stmt → Bool) where
   inside_roll : (h : Stmt-F Stmt) → everywhere test (roll-Stmt h) ≡ true → inside_passes h ≡ true
   unfolding opened_statement
   inside_roll (If site cond a b) e =
-      let both = and_true (hidden_passes a) (hidden_passes b) (and_true _ (hidden_passes a && hidden_passes b) (sym (ap (everywhere test) (rolls-If site cond a b)) ∙ e)).1 in
+      let both = and_true (hidden_passes a) (hidden_passes b) (and_true _ (hidden_passes a && hidden_passes b)
+      (sym (ap (everywhere test) (rolls-If site cond a b)) ∙ e)).1 in
       and_make (all_pass a) (all_pass b) (sym (everywhere_hidden test a) ∙ both.0) (sym (everywhere_hidden test b) ∙ both.1)
-  inside_roll (While site cond a) e = sym (everywhere_hidden test a) ∙ (and_true _ (hidden_passes a) (sym (ap (everywhere test) (rolls-While site cond a)) ∙ e)).1
-  inside_roll (Region q site cond a) e = sym (everywhere_hidden test a) ∙ (and_true _ (hidden_passes a) (sym (ap (everywhere test) (rolls-Region q site cond a)) ∙ e)).1
+  inside_roll (While site cond a) e =
+      sym (everywhere_hidden test a) ∙ (and_true _ (hidden_passes a) (sym (ap (everywhere test) (rolls-While site cond a)) ∙ e)).1
+  inside_roll (Region q site cond a) e =
+      sym (everywhere_hidden test a) ∙ (and_true _ (hidden_passes a) (sym (ap (everywhere test) (rolls-Region q site cond a)) ∙ e)).1
   inside_roll _ e = refl
 
   pub inside_out : (x : Stmt) → everywhere test x ≡ true → inside_passes (out-Stmt x) ≡ true
@@ -68,10 +71,14 @@ module _ (test : Stmt → Bool) where
       by None later = later
       by (Some q) later = (and_true (everywhere test x) (all_pass rest) k).1
 
-  pass_by : (x : Stmt) (rest : List Stmt) (h : Stmt-F Stmt) (z : ℤ) → everywhere test x ≡ true → inside_passes h ≡ true → all_pass rest ≡ true → all_pass (followed x rest h z) ≡ true
-  pass_by x rest (If site cond a b) z w h k = let both = and_true (all_pass a) (all_pass b) h in pass-append (choose z a b) rest (pass_choose z a b both.0 both.1) k
-  pass_by x rest (While site cond a) z w h k = pass_choose z (a ++ x ∷ rest) rest (pass-append a (x ∷ rest) h (and_make (everywhere test x) (all_pass rest) w k)) k
-  pass_by x rest (Region q site cond a) z w h k = pass_choose z (a ++ x ∷ rest) rest (pass-append a (x ∷ rest) h (and_make (everywhere test x) (all_pass rest) w k)) k
+  pass_by : (x : Stmt) (rest : List Stmt) (h : Stmt-F Stmt) (z : ℤ) → everywhere test x ≡ true → inside_passes h ≡ true → all_pass rest ≡ true →
+      all_pass (followed x rest h z) ≡ true
+  pass_by x rest (If site cond a b) z w h k = let both = and_true (all_pass a) (all_pass b) h in
+      pass-append (choose z a b) rest (pass_choose z a b both.0 both.1) k
+  pass_by x rest (While site cond a) z w h k =
+      pass_choose z (a ++ x ∷ rest) rest (pass-append a (x ∷ rest) h (and_make (everywhere test x) (all_pass rest) w k)) k
+  pass_by x rest (Region q site cond a) z w h k =
+      pass_choose z (a ++ x ∷ rest) rest (pass-append a (x ∷ rest) h (and_make (everywhere test x) (all_pass rest) w k)) k
   pass_by x rest (Break site cond) z w h k = pass_choose z (behind_region rest) rest (pass_behind rest k) k
   pass_by x rest _ z w h k = k
 

@@ -1,5 +1,6 @@
 -- The text before a checkpoint and that of the run that goes on from it are the text of one run.
-use Rattle.std.proofs.Common.{◌≡◌, ◌⊎◌, refl, sym, ap, ◌∙◌, subst, inl, inr, ℕ, zero, suc, ◌+◌, ◌-◌, ◌<◌, ◌≤◌, ◌==◌, true, false, List, [], ◌∷◌, ◌++◌, ℤ, length, map, take, drop, Some, is_some, slice_get, append_assoc, length-append, arith, rules, tests}
+use Rattle.std.proofs.Common.{◌≡◌, ◌⊎◌, refl, sym, ap, ◌∙◌, subst, inl, inr, ℕ, zero, suc, ◌+◌, ◌-◌, ◌<◌, ◌≤◌, ◌==◌, true, false, List, [], ◌∷◌, ◌++◌, ℤ}
+use Rattle.std.proofs.Common.{length, map, take, drop, Some, is_some, slice_get, append_assoc, length-append, arith, rules, tests}
 use Rattle.std.specs.Prelude.{if◌then◌else◌}
 use Rattle.std.proofs.lemmas.Grind.{flat_map-append}
 use Rattle.std.proofs.lemmas.List.{length-take-le, take-append-drop}
@@ -53,19 +54,23 @@ if_other a b x y (inl less) = let t : (a == b) ≡ false = search (rules, tests)
 if_other a b x y (inr more) = let t : (a == b) ≡ false = search (rules, tests) in rw t refl
 
 module _ (p : Program) (run rest : Run) (r n : ℕ)
-    (own : (plan : Plan) → IsPlan p plan → plan.region ≡ r → uncaused (gone_on (saved_report p run r n plan) (region_report p plan rest)) ≡ uncaused (report_at p run r n plan))
+    (own : (plan : Plan) → IsPlan p plan → plan.region ≡ r → uncaused (gone_on (saved_report p run r n plan)
+    (region_report p plan rest)) ≡ uncaused (report_at p run r n plan))
     (later : (plan : Plan) → IsPlan p plan → r < plan.region → uncaused (region_report p plan rest) ≡ uncaused (region_report p plan run)) where
-  later_all : (first count : ℕ) (plans : List Plan) → map region_of plans ≡ numbers_from first count → r < first → Each (IsPlan p) plans → map uncaused (region_reports p plans rest) ≡ map uncaused (map (report_at p run r n) plans)
+  later_all : (first count : ℕ) (plans : List Plan) → map region_of plans ≡ numbers_from first count → r < first → Each (IsPlan p) plans →
+      map uncaused (region_reports p plans rest) ≡ map uncaused (map (report_at p run r n) plans)
   later_all first count [] numbers less each = refl
   later_all first zero (plan ∷ plans) numbers less each = absurd (cc numbers)
   later_all first (suc count) (plan ∷ plans) numbers less each =
       let number : plan.region ≡ first = cc numbers in let others : map region_of plans ≡ numbers_from (first + 1) count = cc numbers in
       let head : uncaused (region_report p plan rest) ≡ uncaused (report_at p run r n plan) =
-      later plan each.0 (omega (arith, number, less)) ∙ sym (ap uncaused (if_other plan.region r _ (region_report p plan run) (inr (omega (arith, number, less))))) in
+      later plan each.0 (omega (arith, number, less))
+      ∙ sym (ap uncaused (if_other plan.region r _ (region_report p plan run) (inr (omega (arith, number, less))))) in
       ap (λ (x : RegionReport). x ∷ map uncaused (region_reports p plans rest)) head
       ∙ ap (λ (xs : List RegionReport). uncaused (report_at p run r n plan) ∷ xs) (later_all (first + 1) count plans others (omega (arith, less)) each.1)
 
-  pub reports_same : (j first count : ℕ) (plans : List Plan) → r ≡ first + j → j < count → map region_of plans ≡ numbers_from first count → Each (IsPlan p) plans
+  pub reports_same : (j first count : ℕ) (plans : List Plan) → r ≡ first + j → j < count → map region_of plans ≡ numbers_from first count →
+      Each (IsPlan p) plans
       → map uncaused (resumed_reports p rest (map (saved_report p run r n) (take (suc j) plans)) plans) ≡ map uncaused (map (report_at p run r n) plans)
   reports_same j first zero plans here more numbers each = absurd (omega (arith, more))
   reports_same j first (suc count) [] here more numbers each = absurd (cc numbers)
@@ -78,9 +83,11 @@ module _ (p : Program) (run rest : Run) (r n : ℕ)
   reports_same (suc j) first (suc (suc count)) (plan ∷ next ∷ plans) here more numbers each =
       let number : plan.region ≡ first = cc numbers in let others : map region_of (next ∷ plans) ≡ numbers_from (first + 1) (suc count) = cc numbers in
       let head : uncaused (saved_report p run r n plan) ≡ uncaused (report_at p run r n plan) =
-      ap uncaused (if_other plan.region r _ (region_report p plan run) (inl (omega (arith, number, here)))) ∙ sym (ap uncaused (if_other plan.region r _ (region_report p plan run) (inl (omega (arith, number, here))))) in
+      ap uncaused (if_other plan.region r _ (region_report p plan run) (inl (omega (arith, number, here))))
+      ∙ sym (ap uncaused (if_other plan.region r _ (region_report p plan run) (inl (omega (arith, number, here))))) in
       ap (λ (x : RegionReport). x ∷ map uncaused (resumed_reports p rest (map (saved_report p run r n) (take (suc j) (next ∷ plans))) (next ∷ plans))) head
-      ∙ ap (λ (xs : List RegionReport). uncaused (report_at p run r n plan) ∷ xs) (reports_same j (first + 1) (suc count) (next ∷ plans) (omega (arith, here)) (omega (arith, more)) others each.1)
+      ∙ ap (λ (xs : List RegionReport). uncaused (report_at p run r n plan) ∷ xs) (reports_same j (first + 1) (suc count) (next ∷ plans) (omega (arith, here))
+      (omega (arith, more)) others each.1)
 
 -- ---- the prints and the last memory
 
@@ -93,7 +100,8 @@ module _ (run rest : Run) (r m k : ℕ) (goes : GoesOnAs r m k run rest) (within
 
   steps_are : length run.trace ≡ k + length rest.trace
   steps_are =
-      let whole : length run.trace ≡ length (take k run.trace) + length (drop k run.trace) = ap length (sym (take-append-drop k run.trace)) ∙ length-append (take k run.trace) (drop k run.trace) in
+      let whole : length run.trace ≡ length (take k run.trace) + length (drop k run.trace) = ap length (sym (take-append-drop k run.trace))
+      ∙ length-append (take k run.trace) (drop k run.trace) in
       let behind : length (drop k run.trace) ≡ length rest.trace = ap length goes.trace in
       let front : length (take k run.trace) ≡ k = length-take-le k run.trace within in
       omega (arith, whole, behind, front)
@@ -131,37 +139,50 @@ module _ (p : Program) (plans : List Plan) (given : AreGiven p plans) (input : L
     reached : is_some (start (resumed_run p input (checkpoint_at p plans input fuel r n k)) plan.region 0) ≡ true
     reached = ap (λ (u : Run). is_some (start u plan.region 0)) on_is ∙ ap is_some (starts_here p given.inlined input fuel plan is n k starts_so)
 
-    own : uncaused (gone_on (saved_report p (source_run p input fuel) r n plan) (region_report p plan on)) ≡ uncaused (report_at p (source_run p input fuel) r n plan)
+    own : uncaused (gone_on (saved_report p (source_run p input fuel) r n plan) (region_report p plan on)) ≡ uncaused
+        (report_at p (source_run p input fuel) r n plan)
     own =
         ap (λ (x : RegionReport). uncaused (gone_on (uncaused x) (region_report p plan on))) (if_same plan.region r _ (region_report p plan run) number)
         ∙ own_report p plan n k run on goes reached
         ∙ sym (ap uncaused (if_same plan.region r _ (region_report p plan run) number))
 
-    later : (other : Plan) → IsPlan p other → r < other.region → uncaused (region_report p other on) ≡ uncaused (region_report p other (source_run p input fuel))
+    later : (other : Plan) → IsPlan p other → r < other.region →
+        uncaused (region_report p other on) ≡ uncaused (region_report p other (source_run p input fuel))
     later other planned less =
         ap (λ (u : Run). uncaused (region_report p other u)) on_is
         ∙ sym (later_report p given.inlined input fuel plan is n k starts_so other planned (omega (arith, less, number)))
 
     within : k ≤ length (source_run p input fuel).trace
     within =
-        let low = slice_get_within run.configs k (config p given.inlined input fuel plan is n k starts_so) (config_at p given.inlined input fuel plan is n k starts_so) in
+        let low = slice_get_within run.configs k (config p given.inlined input fuel plan is n k starts_so)
+        (config_at p given.inlined input fuel plan is n k starts_so) in
         omega (arith, low, (runs_by_step p input fuel (begin p)).one_more)
 
     -- all other lines
-    lines : ((other : Plan) → IsPlan p other → other.region ≡ r → uncaused (gone_on (saved_report p (source_run p input fuel) r n other) (region_report p other on)) ≡ uncaused (report_at p (source_run p input fuel) r n other)) → 1 ≤ r → r ≤ length p.regions → regions_bytes false (resumed_reports p on (map (saved_report p (source_run p input fuel) r n) (take r plans)) plans) ≡ regions_bytes false (map (report_at p (source_run p input fuel) r n) plans)
+    lines : ((other : Plan) → IsPlan p other → other.region ≡ r →
+        uncaused (gone_on (saved_report p (source_run p input fuel) r n other) (region_report p other on)) ≡ uncaused
+        (report_at p (source_run p input fuel) r n other)) → 1 ≤ r → r ≤ length p.regions →
+        regions_bytes false (resumed_reports p on (map (saved_report p (source_run p input fuel) r n) (take r plans)) plans) ≡ regions_bytes false
+        (map (report_at p (source_run p input fuel) r n) plans)
     lines own_any low high =
         let before : suc (r - 1) ≡ r = omega (arith, low) in
         lines_same (resumed_reports p on (map (saved_report p run r n) (take r plans)) plans) (map (report_at p run r n) plans)
         (ap (λ (m : ℕ). map uncaused (resumed_reports p on (map (saved_report p run r n) (take m plans)) plans)) (sym before)
-        ∙ reports_same p run on r n own_any later (r - 1) 1 (length p.regions) plans (omega (arith, low)) (omega (arith, low, high)) given.plans_are.regions given.plans_are.each)
+        ∙ reports_same p run on r n own_any later (r - 1) 1 (length p.regions) plans (omega (arith, low)) (omega (arith, low, high)) given.plans_are.regions
+        given.plans_are.each)
 
-    pub text_is : ((other : Plan) → IsPlan p other → other.region ≡ r → uncaused (gone_on (saved_report p (source_run p input fuel) r n other) (region_report p other on)) ≡ uncaused (report_at p (source_run p input fuel) r n other)) → 1 ≤ r → r ≤ length p.regions → text_before (source_run p input fuel) k ++ resumed_bytes p plans input (checkpoint_at p plans input fuel r n k) ≡ run_bytes_at p plans (source_run p input fuel) r n
+    pub text_is : ((other : Plan) → IsPlan p other → other.region ≡ r →
+        uncaused (gone_on (saved_report p (source_run p input fuel) r n other) (region_report p other on)) ≡ uncaused
+        (report_at p (source_run p input fuel) r n other)) → 1 ≤ r → r ≤ length p.regions → text_before (source_run p input fuel) k
+        ++ resumed_bytes p plans input (checkpoint_at p plans input fuel r n k) ≡ run_bytes_at p plans (source_run p input fuel) r n
     text_is own_any low high =
         let closing = end_bytes p (final_cells on) (resumed_reports p on saved.reports plans) on.end false in
         sym (append_assoc (text_before run k) (prints_bytes (prints on.trace)) closing)
         ∙ ap (λ (t : List ℕ). t ++ closing) (texts_join run on plan.region n k goes within)
-        ∙ ap (λ (cells : List ℤ). prints_bytes (prints run.trace) ++ end_bytes p cells (resumed_reports p on saved.reports plans) on.end false) (cells_same run on plan.region n k goes within)
-        ∙ ap (λ (how : End). prints_bytes (prints run.trace) ++ end_bytes p (final_cells run) (resumed_reports p on saved.reports plans) how false) (sym goes.end)
+        ∙ ap (λ (cells : List ℤ). prints_bytes (prints run.trace) ++ end_bytes p cells (resumed_reports p on saved.reports plans) on.end false)
+        (cells_same run on plan.region n k goes within)
+        ∙ ap (λ (how : End). prints_bytes (prints run.trace) ++ end_bytes p (final_cells run) (resumed_reports p on saved.reports plans) how
+        false) (sym goes.end)
         ∙ ap (λ (t : List ℕ). prints_bytes (prints run.trace) ++ (state_bytes p.vars (final_cells run) ++ t ++ end_line run.end)) (lines own_any low high)
 
 pub goes_on_in_text : (p : Program) (plans : List Plan) → GoesOnInText p plans

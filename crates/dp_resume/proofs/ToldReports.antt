@@ -20,7 +20,8 @@ no_causes false report = refl
 -- as many numbers are listed as with them
 pub listed_uncaused : (reports : List RegionReport) → All IsListed (map uncaused reports) → All IsListed reports
 listed_uncaused [] all = All-nil IsListed
-listed_uncaused (r ∷ reports) all = All-cons IsListed r reports (All-head IsListed (uncaused r) (map uncaused reports) all) (listed_uncaused reports (All-tail IsListed (uncaused r) (map uncaused reports) all))
+listed_uncaused (r ∷ reports) all = All-cons IsListed r reports (All-head IsListed (uncaused r) (map uncaused reports) all)
+    (listed_uncaused reports (All-tail IsListed (uncaused r) (map uncaused reports) all))
 
 module _ (p : Program) (run : Run) where
   -- there are none to be left out

@@ -1,5 +1,6 @@
 -- A run that goes on from a checkpoint, to its end: its text is written, or a front of it.
-use Rattle.std.proofs.Common.{◌≡◌, refl, sym, ap, ◌∙◌, subst, ℕ, zero, suc, ◌+◌, ◌-◌, ◌<◌, ◌≤◌, false, List, [], ◌∷◌, ◌++◌, ℤ, length, map, take, drop, All, Option, Some, None, append-nil, length-drop, arith}
+use Rattle.std.proofs.Common.{◌≡◌, refl, sym, ap, ◌∙◌, subst, ℕ, zero, suc, ◌+◌, ◌-◌, ◌<◌, ◌≤◌, false, List, [], ◌∷◌, ◌++◌, ℤ, length, map, take, drop, All}
+use Rattle.std.proofs.Common.{Option, Some, None, append-nil, length-drop, arith}
 use Rattle.std.proofs.lemmas.List.{take-append-drop}
 use Rattle.dp_base.specs.declared.End.{End}
 use Rattle.dp_base.specs.declared.RegionReport.{RegionReport}
@@ -97,7 +98,8 @@ module _ (p : Program) (plans : List Plan) (given : AreGiven p plans) (input : L
       ∙ left_at p plans given c.region fits.place.some_region fits.place.region_exists
       ∙ ap (numbers_from c.region) count ∙ ap (λ (k : ℕ). numbers_from k (length p.regions - (c.region - 1))) (sym next_is)
 
-  behind_first : Behind p input c.fuel (resumed_run p input c) (c.region - 1) (record { program = p; input = input; config = first; steps = c.steps; fuel = c.fuel; current = None; spoiled = false })
+  behind_first : Behind p input c.fuel (resumed_run p input c) (c.region - 1)
+      (record { program = p; input = input; config = first; steps = c.steps; fuel = c.fuel; current = None; spoiled = false })
   behind_first = record {
     begins = record { from = first; steps = c.fuel - c.steps; stands = region_in_main c.region p c.cells fits.cells.long; within = omega arith; run_is = refl };
     program_is = refl;
@@ -120,9 +122,11 @@ module _ (p : Program) (plans : List Plan) (given : AreGiven p plans) (input : L
   prints_at m e = ap to_come e
 
   -- a front of the prints is one of the text
-  pub front_of_run : (m : MachineState) → Start m → (told tells : Option (List ℕ)) → WritesFront (prints_bytes (to_come m)) told tells → WritesFront (resumed_bytes p plans input c) told tells
+  pub front_of_run : (m : MachineState) → Start m → (told tells : Option (List ℕ)) → WritesFront (prints_bytes (to_come m)) told tells →
+      WritesFront (resumed_bytes p plans input c) told tells
   front_of_run m e told tells w =
-      front_more (prints_bytes (prints run.trace)) (resumed_closing p plans input c) told tells (subst (λ (zs : List ℤ). WritesFront (prints_bytes zs) told tells) (prints_at m e) w)
+      front_more (prints_bytes (prints run.trace)) (resumed_closing p plans input c) told tells
+      (subst (λ (zs : List ℤ). WritesFront (prints_bytes zs) told tells) (prints_at m e) w)
 
   -- The run has ended behind the first of these plans' regions, whose reports are there.
   pub record Finished (m : MachineState) (end : End) (reports : List RegionReport) : Type 0 where
@@ -132,14 +136,16 @@ module _ (p : Program) (plans : List Plan) (given : AreGiven p plans) (input : L
     pub reports_are : reports ≡ told_reports false p (take count (drop (c.region - 1) plans)) (resumed_run p input c)
 
   -- Where it went by all regions it has ended, too.
-  pub finished : (last : MachineState) (fuel : ℕ) (o : Option End) (end : End) (told reports : List RegionReport) (before now : ℕ) → told ≡ [] → end ≡ ended_by o →
+  pub finished : (last : MachineState) (fuel : ℕ) (o : Option End) (end : End) (told reports : List RegionReport) (before now : ℕ) →
+      told ≡ [] → end ≡ ended_by o →
       Went false p (drop (c.region - 1) plans) input fuel (resumed_run p input c) (c.region - 1) last o told reports before now → Finished last end reports
   finished last fuel None end told reports before now none is w =
       let none_left : length p.regions - ((c.region - 1) + w.count) ≡ 0 = let all = w.all refl in omega (arith, many_left, all) in
       record {
         count = w.count;
         within = w.within;
-        over = subst (Over run ((c.region - 1) + w.count) last) (sym is) (over_done p input fuel run ((c.region - 1) + w.count) last w.leads.behind (finished_next p input fuel run ((c.region - 1) + w.count) last w.leads none_left));
+        over = subst (Over run ((c.region - 1) + w.count) last) (sym is) (over_done p input fuel run ((c.region - 1) + w.count) last w.leads.behind
+            (finished_next p input fuel run ((c.region - 1) + w.count) last w.leads none_left));
         reports_are = w.counted.reports_are ∙ ap (λ (rs : List RegionReport). rs ++ told_reports false p (take w.count left) run) none;
       }
   finished last fuel (Some how) end told reports before now none is w = record {
@@ -151,12 +157,14 @@ module _ (p : Program) (plans : List Plan) (given : AreGiven p plans) (input : L
 
   -- the region itself is reached at once
   reached : starts (resumed_run p input c) (suc (c.region - 1)) ≡ [] → ⊥
-  reached none = starts_there p plans given c.region fits.place.some_region fits.place.region_exists input (c.fuel - c.steps) c.cells (sym (ap (starts run) next_is) ∙ none)
+  reached none = starts_there p plans given c.region fits.place.some_region fits.place.region_exists input (c.fuel - c.steps) c.cells
+      (sym (ap (starts run) next_is) ∙ none)
 
   module _ (last : MachineState) (end : End) (told : List RegionReport) (d : Finished last end told) where
     silent : regions_bytes false (region_reports p (drop d.count (drop (c.region - 1) plans)) (resumed_run p input c)) ≡ []
     silent =
-        silent_in p run false (d.count + suc (c.region - 1)) (drop d.count left) (λ r h. d.over.unreached r (omega (arith, h))) (length left - d.count) (numbers_behind d.count left (suc (c.region - 1)) (length left) d.within numbered)
+        silent_in p run false (d.count + suc (c.region - 1)) (drop d.count left) (λ r h. d.over.unreached r (omega (arith, h))) (length left - d.count)
+        (numbers_behind d.count left (suc (c.region - 1)) (length left) d.within numbered)
 
     -- the reports that are there, with their causes
     abbrev causes : List RegionReport
@@ -165,24 +173,29 @@ module _ (p : Program) (plans : List Plan) (given : AreGiven p plans) (input : L
     lines_told : regions_bytes false (merged c.reports told) ≡ regions_bytes false (merged c.reports causes)
     lines_told =
         ap (λ (rs : List RegionReport). regions_bytes false (merged c.reports rs)) d.reports_are
-        ∙ lines_same (merged c.reports (told_reports false p (take d.count left) run)) (merged c.reports causes) (merged_alike p run c.reports (take d.count left))
+        ∙ lines_same (merged c.reports (told_reports false p (take d.count left) run)) (merged c.reports causes)
+        (merged_alike p run c.reports (take d.count left))
 
     -- some of its iterations may be begun, so that it has a report
-    lines_case : (count : ℕ) → d.count ≡ count → regions_bytes false (merged c.reports causes) ≡ regions_bytes false (merged c.reports (region_reports p (drop (c.region - 1) plans) (resumed_run p input c)))
+    lines_case : (count : ℕ) → d.count ≡ count → regions_bytes false (merged c.reports causes) ≡ regions_bytes false
+        (merged c.reports (region_reports p (drop (c.region - 1) plans) (resumed_run p input c)))
     lines_case zero none = absurd (reached (d.over.unreached (suc (c.region - 1)) (omega (arith, none))))
     lines_case (suc count) is = lines_by (drop (c.region - 1) plans) refl
       where
-        lines_by : (ps : List Plan) → drop (c.region - 1) plans ≡ ps → regions_bytes false (merged c.reports causes) ≡ regions_bytes false (merged c.reports (region_reports p (drop (c.region - 1) plans) (resumed_run p input c)))
+        lines_by : (ps : List Plan) → drop (c.region - 1) plans ≡ ps → regions_bytes false (merged c.reports causes) ≡ regions_bytes false
+            (merged c.reports (region_reports p (drop (c.region - 1) plans) (resumed_run p input c)))
         lines_by [] e = absurd (let few = d.within in omega (arith, is, few, ap length e))
         lines_by (plan ∷ rest) e =
             let some : 0 < length c.reports = omega (arith, fits.all, fits.place.some_region) in
             let told_is : causes ≡ region_report p plan run ∷ region_reports p (take count rest) run =
             ap (λ (k : ℕ). region_reports p (take k left) run) is ∙ ap (λ (xs : List Plan). region_reports p (take (suc count) xs) run) e in
             let more_is : regions_bytes false (region_reports p (drop count rest) run) ≡ [] =
-            sym (ap (λ (k : ℕ). regions_bytes false (region_reports p (drop k left) run)) is ∙ ap (λ (xs : List Plan). regions_bytes false (region_reports p (drop (suc count) xs) run)) e) ∙ silent in
+            sym (ap (λ (k : ℕ). regions_bytes false (region_reports p (drop k left) run)) is
+            ∙ ap (λ (xs : List Plan). regions_bytes false (region_reports p (drop (suc count) xs) run)) e) ∙ silent in
             ap (λ (rs : List RegionReport). regions_bytes false (merged c.reports rs)) told_is
             ∙ merged_lines c.reports (region_report p plan run) (region_reports p (take count rest) run) (region_reports p (drop count rest) run) some more_is
-            ∙ ap (λ (rs : List RegionReport). regions_bytes false (merged c.reports (region_report p plan run ∷ rs))) (sym (reports_append p run (take count rest) (drop count rest)) ∙ ap (λ (xs : List Plan). region_reports p xs run) (take-append-drop count rest))
+            ∙ ap (λ (rs : List RegionReport). regions_bytes false (merged c.reports (region_report p plan run ∷ rs)))
+            (sym (reports_append p run (take count rest) (drop count rest)) ∙ ap (λ (xs : List Plan). region_reports p xs run) (take-append-drop count rest))
             ∙ ap (λ (xs : List Plan). regions_bytes false (merged c.reports (region_reports p xs run))) (sym e)
 
     lines_are : regions_bytes false (merged c.reports told) ≡ regions_bytes false (resumed_reports p (resumed_run p input c) c.reports plans)
@@ -196,7 +209,8 @@ module _ (p : Program) (plans : List Plan) (given : AreGiven p plans) (input : L
     end_is = sym d.over.end_is
 
     pub listed : All IsListed (merged c.reports told)
-    listed = listed_merged c.reports told (listed_saved c.reports fits.reports.each) (subst (All IsListed) (sym d.reports_are) (listed_in p run false (take d.count left)))
+    listed = listed_merged c.reports told (listed_saved c.reports fits.reports.each)
+        (subst (All IsListed) (sym d.reports_are) (listed_in p run false (take d.count left)))
 
     closing_is : end_bytes p last.config.cells (merged c.reports told) end false ≡ resumed_closing p plans input c
     closing_is =
@@ -218,13 +232,19 @@ module _ (p : Program) (plans : List Plan) (given : AreGiven p plans) (input : L
 
       module _ (cells : List ℤ) (seen : cells ≡ last.config.cells) (reports : List RegionReport) (are : reports ≡ merged c.reports told) where
         closing_seen : end_bytes p cells reports end false ≡ resumed_closing p plans input c
-        closing_seen = ap (λ (zs : List ℤ). end_bytes p zs reports end false) seen ∙ ap (λ (rs : List RegionReport). end_bytes p last.config.cells rs end false) are ∙ closing_is
+        closing_seen = ap (λ (zs : List ℤ). end_bytes p zs reports end false) seen
+            ∙ ap (λ (rs : List RegionReport). end_bytes p last.config.cells rs end false) are ∙ closing_is
 
-        pub front_at_end : (lent : Program) → lent ≡ p → (tells : Option (List ℕ)) → WritesFront (end_bytes lent cells reports end false) mid tells → WritesFront (resumed_bytes p plans input c) before tells
-        front_at_end lent same tells w = front_behind (resumed_bytes p plans input c) (prints_bytes (prints run.trace)) (end_bytes p cells reports end false) before mid tells
-            (ap (λ (x : List ℕ). prints_bytes (prints run.trace) ++ x) (sym closing_seen)) prints_written (subst (λ (q : Program). WritesFront (end_bytes q cells reports end false) mid tells) same w)
+        pub front_at_end : (lent : Program) → lent ≡ p → (tells : Option (List ℕ)) → WritesFront (end_bytes lent cells reports end false) mid tells →
+            WritesFront (resumed_bytes p plans input c) before tells
+        front_at_end lent same tells w =
+            front_behind (resumed_bytes p plans input c) (prints_bytes (prints run.trace)) (end_bytes p cells reports end false) before mid tells
+            (ap (λ (x : List ℕ). prints_bytes (prints run.trace) ++ x) (sym closing_seen)) prints_written
+            (subst (λ (q : Program). WritesFront (end_bytes q cells reports end false) mid tells) same w)
 
-        pub all_written : (lent : Program) → lent ≡ p → (tells : Option (List ℕ)) → tells ≡ appended (end_bytes lent cells reports end false) mid → tells ≡ appended (resumed_bytes p plans input c) before
+        pub all_written : (lent : Program) → lent ≡ p → (tells : Option (List ℕ)) → tells ≡ appended (end_bytes lent cells reports end false) mid →
+            tells ≡ appended (resumed_bytes p plans input c) before
         all_written lent same tells w = w ∙ ap (λ (q : Program). appended (end_bytes q cells reports end false) mid) same
-            ∙ ap (appended (end_bytes p cells reports end false)) prints_written ∙ appended-append (prints_bytes (prints run.trace)) (end_bytes p cells reports end false) before
+            ∙ ap (appended (end_bytes p cells reports end false)) prints_written ∙ appended-append (prints_bytes (prints run.trace))
+            (end_bytes p cells reports end false) before
             ∙ ap (λ (x : List ℕ). appended (prints_bytes (prints run.trace) ++ x) before) closing_seen

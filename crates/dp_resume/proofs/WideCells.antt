@@ -1,5 +1,6 @@
 -- The memory of a run holds numbers of 64 bits.
-use Rattle.std.proofs.Common.{◌≡◌, inl, inr, refl, sym, ap, ◌∙◌, subst, ℕ, zero, suc, ◌+◌, ◌^◌, ◌<◌, Bool, true, ◌&&◌, List, [], ◌∷◌, ℤ, pos, length, replicate, Some, slice_get, slice_set, Ok, Err, get_or-set_other, length-set, arith}
+use Rattle.std.proofs.Common.{◌≡◌, inl, inr, refl, sym, ap, ◌∙◌, subst, ℕ, zero, suc, ◌+◌, ◌^◌, ◌<◌, Bool, true, ◌&&◌, List, [], ◌∷◌, ℤ, pos, length, replicate}
+use Rattle.std.proofs.Common.{Some, slice_get, slice_set, Ok, Err, get_or-set_other, length-set, arith}
 use Rattle.std.proofs.lemmas.Grind.{get_or-set_at}
 use Rattle.std.proofs.lemmas.List.{get_or_past}
 use Rattle.std.specs.List.{list_all}
@@ -102,11 +103,14 @@ module _ (p : Program) (input : List ℤ) (few : length input < 2 ^ 63) (read : 
 
   evaluated_wide : (cells : List ℤ) → AllWide cells → (h : Stmt-F Stmt) → head_fits h ≡ true → Gives StoresWide (evaluated p input cells h)
   unfolding StoresWide Gives
-  evaluated_wide cells wide (Assign site x e) w = gives_then IsWide StoresWide _ _ (eval_fits p input few read cells wide e w) (λ z v. gives_just StoresWide (Stored (first_cell p x) z) v)
+  evaluated_wide cells wide (Assign site x e) w =
+      gives_then IsWide StoresWide _ _ (eval_fits p input few read cells wide e w) (λ z v. gives_just StoresWide (Stored (first_cell p x) z) v)
   evaluated_wide cells wide (Store site x index e) w =
       let both = and_parts (expr_fits index) (expr_fits e) w in
-      gives_then IsWide StoresWide _ _ (eval_fits p input few read cells wide index both.0) (λ i u. gives_then IsWide StoresWide _ _ (eval_fits p input few read cells wide e both.1)
-      (λ z v. gives_then (λ (k : ℕ). Unit {0}) StoresWide _ _ (gives_any (place i (cell_count p x))) (λ k t. gives_just StoresWide (Stored (first_cell p x + k) z) v)))
+      gives_then IsWide StoresWide _ _ (eval_fits p input few read cells wide index both.0)
+      (λ i u. gives_then IsWide StoresWide _ _ (eval_fits p input few read cells wide e both.1)
+      (λ z v. gives_then (λ (k : ℕ). Unit {0}) StoresWide _ _ (gives_any (place i (cell_count p x)))
+      (λ k t. gives_just StoresWide (Stored (first_cell p x + k) z) v)))
   evaluated_wide cells wide (Print site e) w = none_stored Printed (λ z. tt) (eval p input cells e)
   evaluated_wide cells wide (If site cond a b) w = none_stored Decided (λ z. tt) (eval p input cells cond)
   evaluated_wide cells wide (While site cond a) w = none_stored Decided (λ z. tt) (eval p input cells cond)
@@ -130,7 +134,8 @@ module _ (p : Program) (input : List ℤ) (few : length input < 2 ^ 63) (read : 
           let own = own_passes site_fits x (and_parts (everywhere site_fits x) (all_pass site_fits rest) left).0 in
           let wide = effect_at p input StoresWide x rest c.cells (out-Stmt x) event d from (evaluated_wide c.cells w.cells (out-Stmt x) (fits_out x own)) in
           record {
-            cells = subst (λ (u : Config). AllWide u.cells) (sym (next_at p input x rest c.cells (out-Stmt x) event d from)) (kept_after p AllWide zeroed_wide x rest (out-Stmt x) event.effect c.cells (stored_wide event.effect c.cells wide w.cells));
+            cells = subst (λ (u : Config). AllWide u.cells) (sym (next_at p input x rest c.cells (out-Stmt x) event d from))
+                (kept_after p AllWide zeroed_wide x rest (out-Stmt x) event.effect c.cells (stored_wide event.effect c.cells wide w.cells));
             to_do = ap (all_pass site_fits) (stepped p input c x rest event d is e).to_do ∙ pass_followed site_fits x rest (value_of event.effect) left;
           }
 

@@ -9,7 +9,7 @@ ghost use Rattle.dp_edge.specs.Writing.{FaultsAfter, WritesFront};
 ghost use Rattle.dp_report.specs.PrintsText.{prints_bytes};
 ghost use Rattle.dp_crew.specs.Output.{Emits};
 ghost use Rattle.dp_epoch.specs.RegionRun.{RegionStart, region_run};
-ghost use Rattle.dp_audit.specs.Runs.{Stands};
+ghost use Rattle.dp_audit.specs.Runs.{RegionStands};
 ghost use Rattle.dp_run.specs.Stretches.{to_come};
 ghost use Rattle.dp_resume.specs.steps.Reaching as spec;
 
@@ -47,12 +47,14 @@ fn step<'s, 'q, 'p, R: Wait + Clock, K: Sink>(
 ) -> Result<Option<RegionEnd>, WriteFail>
 where
     'p: 's,
-    requires stands { (p : Tree) × (plan : PlanValue) × (input : List ℤ) × (first : MachineState) × (n : ℕ) × Stands p plan input first n runner.old }
+    requires stands { (p : Tree) × (plan : PlanValue) × (input : List ℤ) × (first : MachineState) × (n : ℕ) × RegionStands p plan input first n runner.old }
     requires sink { K.faults sink.old < 2 ^ 64 - 1 }
     ensures faults { FaultsAfter result (K.faults sink.old) (K.faults sink.new) }
-    ensures made { IfOk result (λ end. (p : Tree) (plan : PlanValue) (input : List ℤ) (first : MachineState) (n : ℕ) → Stands p plan input first n runner.old → spec.Steps p plan input first n runner.new end) }
-    ensures emits { IfOk result (λ _. Emits (waiting.old ++ to_come (spec.machine_of runner.old)) (waiting.new ++ to_come (spec.machine_of runner.new)) (K.written sink.old) (K.written sink.new)) }
-    ensures front { OnErr result ((p : Tree) (plan : PlanValue) (input : List ℤ) (first : MachineState) (n : ℕ) → Stands p plan input first n runner.old →
+    ensures made { IfOk result (λ end. (p : Tree) (plan : PlanValue) (input : List ℤ) (first : MachineState) (n : ℕ) →
+        RegionStands p plan input first n runner.old → spec.Steps p plan input first n runner.new end) }
+    ensures emits { IfOk result (λ _. Emits (waiting.old ++ to_come (spec.machine_of runner.old)) (waiting.new ++ to_come (spec.machine_of runner.new))
+        (K.written sink.old) (K.written sink.new)) }
+    ensures front { OnErr result ((p : Tree) (plan : PlanValue) (input : List ℤ) (first : MachineState) (n : ℕ) → RegionStands p plan input first n runner.old →
         WritesFront (prints_bytes (waiting.old ++ prints (iteration (region_run first) plan.region n))) (K.written sink.old) (K.written sink.new)) }
 {
     match runner.next(rt)? {
@@ -76,14 +78,16 @@ fn make<'s, 'q, 'p, R: Wait + Clock, K: Sink>(
 ) -> Result<Option<RegionEnd>, WriteFail>
 where
     'p: 's,
-    requires stands { (p : Tree) × (plan : PlanValue) × (input : List ℤ) × (first : MachineState) × Stands p plan input first 0 runner.old }
+    requires stands { (p : Tree) × (plan : PlanValue) × (input : List ℤ) × (first : MachineState) × RegionStands p plan input first 0 runner.old }
     requires sink { K.faults sink.old < 2 ^ 64 - 1 }
     ensures faults { FaultsAfter result (K.faults sink.old) (K.faults sink.new) }
-    ensures stops { IfOk result (λ end. (p : Tree) (plan : PlanValue) (input : List ℤ) (first : MachineState) → Stands p plan input first 0 runner.old →
+    ensures stops { IfOk result (λ end. (p : Tree) (plan : PlanValue) (input : List ℤ) (first : MachineState) → RegionStands p plan input first 0 runner.old →
         spec.Stops p plan first after (spec.machine_of runner.new) runner.new.ledger.account.report end) }
-    ensures emits { IfOk result (λ _. Emits (to_come (spec.machine_of runner.old)) (to_come (spec.machine_of runner.new)) (K.written sink.old) (K.written sink.new)) }
-    ensures front { OnErr result ((p : Tree) (plan : PlanValue) (input : List ℤ) (first : MachineState) → Stands p plan input first 0 runner.old →
-        WritesFront (prints_bytes (spec.prints_until (region_run first) (start (region_run first) plan.region after))) (K.written sink.old) (K.written sink.new)) }
+    ensures emits { IfOk result (λ _. Emits (to_come (spec.machine_of runner.old)) (to_come (spec.machine_of runner.new)) (K.written sink.old)
+        (K.written sink.new)) }
+    ensures front { OnErr result ((p : Tree) (plan : PlanValue) (input : List ℤ) (first : MachineState) → RegionStands p plan input first 0 runner.old →
+        WritesFront (prints_bytes (spec.prints_until (region_run first) (start (region_run first) plan.region after))) (K.written sink.old)
+        (K.written sink.new)) }
 {
     let mut waiting = Row::new(alloc);
     let mut end = None;
@@ -114,7 +118,9 @@ pub(crate) fn reach<'p, R: Wait + Clock, K: Sink>(
     ensures faults { FaultsAfter result (K.faults sink.old) (K.faults sink.new) }
     ensures stops { IfOk result (λ ran. spec.Stops region.now.program region.now.plan machine.entry after ran.0 ran.1 ran.2) }
     ensures written { IfOk result (λ ran. Emits (to_come machine.entry) (to_come ran.0) (K.written sink.old) (K.written sink.new)) }
-    ensures front { OnErr result (WritesFront (prints_bytes (spec.prints_until (region_run machine.entry) (start (region_run machine.entry) region.now.plan.region after))) (K.written sink.old) (K.written sink.new)) }
+    ensures front { OnErr result
+        (WritesFront (prints_bytes (spec.prints_until (region_run machine.entry) (start (region_run machine.entry) region.now.plan.region after)))
+        (K.written sink.old) (K.written sink.new)) }
 {
     let mut runner = Runner::begin(alloc, region.region(), input, machine, size)?;
     let end = make(rt, alloc, &mut runner, after, sink)?;

@@ -35,7 +35,8 @@ pub(crate) fn finish<K: Sink>(
     requires sink { K.faults sink.old < 2 ^ 64 - 1 }
     requires listed { All (λ report. length report.recovered ≡ min report.recovered_count 1000) reports }
     ensures faults { FaultsAfter result (K.faults sink.old) (K.faults sink.new) }
-    ensures ok { IfOk result (λ ended. (ended ≡ HasRun end) × (K.written sink.new ≡ appended (end_bytes program.now machine.entry.config.cells reports end false) (K.written sink.old))) }
+    ensures ok { IfOk result (λ ended. (ended ≡ HasRun end)
+        × (K.written sink.new ≡ appended (end_bytes program.now machine.entry.config.cells reports end false) (K.written sink.old))) }
     ensures err { OnErr result (WritesFront (end_bytes program.now machine.entry.config.cells reports end false) (K.written sink.old) (K.written sink.new)) }
 {
     let cells = machine.cells();
@@ -58,14 +59,16 @@ fn run_behind<'p, R: Threads + Wait + Clock + Sync, K: Sink, G: Gate>(
 ) -> Result<SaveEnd, WriteFail>
     requires region { region ≤ length prepared.now.plans }
     requires behind { Behind prepared.now.program input.now machine.fuel (source_run prepared.now.program input.now machine.fuel) region machine }
-    requires reports { map uncaused reports ≡ told_reports false prepared.now.program (take region prepared.now.plans) (source_run prepared.now.program input.now machine.fuel) }
+    requires reports { map uncaused reports ≡ told_reports false prepared.now.program (take region prepared.now.plans)
+        (source_run prepared.now.program input.now machine.fuel) }
     requires words { length input.now ≤ 65536 }
     requires fuel { machine.fuel ≤ 1000000000 }
     requires sink { K.faults sink.old < 2 ^ 64 - 1 }
     ensures faults { FaultsAfter result (K.faults sink.old) (K.faults sink.new) }
     ensures ok { IfOk result (λ ended. (ended ≡ HasRun (source_run prepared.now.program input.now machine.entry.fuel).end)
         × (K.written sink.new ≡ appended (ending_from prepared.now.program prepared.now.plans input.now machine.entry) (K.written sink.old))) }
-    ensures err { OnErr result (WritesFront (ending_from prepared.now.program prepared.now.plans input.now machine.entry) (K.written sink.old) (K.written sink.new)) }
+    ensures err { OnErr result (WritesFront (ending_from prepared.now.program prepared.now.plans input.now machine.entry) (K.written sink.old)
+        (K.written sink.new)) }
 {
     let program = prepared.program();
     let left = regions_behind(prepared, region);
@@ -93,14 +96,16 @@ pub(crate) fn run_on<'p, R: Threads + Wait + Clock + Sync, K: Sink, G: Gate>(
 ) -> Result<SaveEnd, WriteFail>
     requires region { region ≤ length prepared.now.plans }
     requires after { AfterRegion prepared.now.program input.now machine.fuel (source_run prepared.now.program input.now machine.fuel) region machine end }
-    requires reports { map uncaused reports ≡ told_reports false prepared.now.program (take region prepared.now.plans) (source_run prepared.now.program input.now machine.fuel) }
+    requires reports { map uncaused reports ≡ told_reports false prepared.now.program (take region prepared.now.plans)
+        (source_run prepared.now.program input.now machine.fuel) }
     requires words { length input.now ≤ 65536 }
     requires fuel { machine.fuel ≤ 1000000000 }
     requires sink { K.faults sink.old < 2 ^ 64 - 1 }
     ensures faults { FaultsAfter result (K.faults sink.old) (K.faults sink.new) }
     ensures ok { IfOk result (λ ended. (ended ≡ HasRun (source_run prepared.now.program input.now machine.entry.fuel).end)
         × (K.written sink.new ≡ appended (ending_from prepared.now.program prepared.now.plans input.now machine.entry) (K.written sink.old))) }
-    ensures err { OnErr result (WritesFront (ending_from prepared.now.program prepared.now.plans input.now machine.entry) (K.written sink.old) (K.written sink.new)) }
+    ensures err { OnErr result (WritesFront (ending_from prepared.now.program prepared.now.plans input.now machine.entry) (K.written sink.old)
+        (K.written sink.new)) }
 {
     let program = prepared.program();
     match end {

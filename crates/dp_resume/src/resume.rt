@@ -39,7 +39,8 @@ pub fn resume_program<R: Threads + Wait + Clock + Sync, K: Sink, G: Gate, W: Wat
     ensures faults { FaultsAfter result (K.faults sink.old) (K.faults sink.new) }
     ensures ok { IfOk result (λ end. (end ≡ (resumed_run prepared.now.program input.now checkpoint).end)
         × (K.written sink.new ≡ appended (resumed_bytes prepared.now.program prepared.now.plans input.now checkpoint) (K.written sink.old))) }
-    ensures err { OnErr result (WritesFront (resumed_bytes prepared.now.program prepared.now.plans input.now checkpoint) (K.written sink.old) (K.written sink.new)) }
+    ensures err { OnErr result (WritesFront (resumed_bytes prepared.now.program prepared.now.plans input.now checkpoint) (K.written sink.old)
+        (K.written sink.new)) }
 {
     let (region, fuel, steps) = (checkpoint.region, checkpoint.fuel, checkpoint.steps);
     let (cells, saved) = checkpoint.into_parts();

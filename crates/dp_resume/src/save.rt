@@ -56,8 +56,26 @@ fn write_saved<K: Sink>(
     requires sink { K.faults sink.old < 2 ^ 64 - 1 }
     ensures faults { FaultsAfter result (K.faults sink.old) (K.faults sink.new) }
     ensures within { machine.entry.steps ≤ machine.entry.fuel }
-    ensures ok { IfOk result (λ end. (end ≡ WasSaved) × (K.written sink.new ≡ appended (checkpoint_bytes (record { region = place.region; after = place.after; steps = machine.entry.steps; fuel = machine.entry.fuel; cells = machine.entry.config.cells; reports = reports })) (K.written sink.old))) }
-    ensures err { OnErr result (WritesFront (checkpoint_bytes (record { region = place.region; after = place.after; steps = machine.entry.steps; fuel = machine.entry.fuel; cells = machine.entry.config.cells; reports = reports })) (K.written sink.old) (K.written sink.new)) }
+    ensures ok { IfOk result (λ end. (end ≡ WasSaved)
+        × (K.written sink.new ≡ appended
+        (checkpoint_bytes (record {
+          region = place.region;
+          after = place.after;
+          steps = machine.entry.steps;
+          fuel = machine.entry.fuel;
+          cells = machine.entry.config.cells;
+          reports = reports;
+        })) (K.written sink.old))) }
+    ensures err { OnErr result
+        (WritesFront (checkpoint_bytes
+        (record {
+          region = place.region;
+          after = place.after;
+          steps = machine.entry.steps;
+          fuel = machine.entry.fuel;
+          cells = machine.entry.config.cells;
+          reports = reports;
+        })) (K.written sink.old) (K.written sink.new)) }
 {
     let checkpoint = Checkpoint {
         region: place.region,
@@ -87,14 +105,17 @@ fn save_in<'p, R: Threads + Wait + Clock + Sync, K: Sink, G: Gate>(
 ) -> Result<SaveEnd, WriteFail>
     requires region { (1 ≤ place.region) × (place.region ≤ length prepared.now.plans) }
     requires between { Between prepared.now.program input.now machine.fuel (source_run prepared.now.program input.now machine.fuel) (place.region - 1) machine }
-    requires reports { reports ≡ told_reports false prepared.now.program (take (place.region - 1) prepared.now.plans) (source_run prepared.now.program input.now machine.fuel) }
+    requires reports { reports ≡ told_reports false prepared.now.program (take (place.region - 1) prepared.now.plans)
+        (source_run prepared.now.program input.now machine.fuel) }
     requires words { length input.now ≤ 65536 }
     requires fuel { machine.fuel ≤ 1000000000 }
     requires sink { K.faults sink.old < 2 ^ 64 - 1 }
     ensures faults { FaultsAfter result (K.faults sink.old) (K.faults sink.new) }
     ensures ok { IfOk result (λ ended. (ended ≡ saved_end prepared.now.program input.now machine.entry.fuel place.region place.after)
-        × (K.written sink.new ≡ appended (left_from prepared.now.program prepared.now.plans input.now place.region place.after machine.entry (start (source_run prepared.now.program input.now machine.entry.fuel) place.region place.after)) (K.written sink.old))) }
-    ensures err { OnErr result (WritesFront (left_from prepared.now.program prepared.now.plans input.now place.region place.after machine.entry (start (source_run prepared.now.program input.now machine.entry.fuel) place.region place.after)) (K.written sink.old) (K.written sink.new)) }
+        × (K.written sink.new ≡ appended (left_from prepared.now.program prepared.now.plans input.now place.region place.after machine.entry
+        (start (source_run prepared.now.program input.now machine.entry.fuel) place.region place.after)) (K.written sink.old))) }
+    ensures err { OnErr result (WritesFront (left_from prepared.now.program prepared.now.plans input.now place.region place.after machine.entry
+        (start (source_run prepared.now.program input.now machine.entry.fuel) place.region place.after)) (K.written sink.old) (K.written sink.new)) }
 {
     let program = prepared.program();
     let number = place.region;
@@ -126,8 +147,10 @@ fn run_whole<R: Threads + Wait + Clock + Sync, K: Sink, G: Gate>(
     requires sink { K.faults sink.old < 2 ^ 64 - 1 }
     ensures faults { FaultsAfter result (K.faults sink.old) (K.faults sink.new) }
     ensures ok { IfOk result (λ ended. (ended ≡ HasRun (source_run prepared.now.program input.now fuel).end)
-        × (K.written sink.new ≡ appended (trace_text prepared.now.program prepared.now.plans (source_run prepared.now.program input.now fuel) false) (K.written sink.old))) }
-    ensures err { OnErr result (WritesFront (trace_text prepared.now.program prepared.now.plans (source_run prepared.now.program input.now fuel) false) (K.written sink.old) (K.written sink.new)) }
+        × (K.written sink.new ≡ appended (trace_text prepared.now.program prepared.now.plans (source_run prepared.now.program input.now fuel) false)
+        (K.written sink.old))) }
+    ensures err { OnErr result (WritesFront (trace_text prepared.now.program prepared.now.plans (source_run prepared.now.program input.now fuel) false)
+        (K.written sink.old) (K.written sink.new)) }
 {
     let options = RunOptions {
         fuel,
@@ -169,7 +192,8 @@ pub fn save_program<R: Threads + Wait + Clock + Sync, K: Sink, G: Gate>(
     ensures faults { FaultsAfter result (K.faults sink.old) (K.faults sink.new) }
     ensures ok { IfOk result (λ end. (end ≡ saved_end prepared.now.program input.now fuel place.region place.after)
         × (K.written sink.new ≡ appended (saved_bytes prepared.now.program prepared.now.plans input.now fuel place.region place.after) (K.written sink.old))) }
-    ensures err { OnErr result (WritesFront (saved_bytes prepared.now.program prepared.now.plans input.now fuel place.region place.after) (K.written sink.old) (K.written sink.new)) }
+    ensures err { OnErr result (WritesFront (saved_bytes prepared.now.program prepared.now.plans input.now fuel place.region place.after) (K.written sink.old)
+        (K.written sink.new)) }
 {
     let program = prepared.program();
     if place.region as usize > region_count(prepared) {

@@ -5,7 +5,7 @@ use lib.ListN.{get_elem?}
 use Rattle.atomic_table.specs.Table.{State}
 use Rattle.dp_ring.specs.declared.view.View.{View}
 use Rattle.dp_ring.specs.declared.view.Phase.TheVariants.{Putting, Taking, Giving, Collecting}
-use Rattle.dp_ring.specs.Views.{Side, base, place, awaited_word, awaited_number}
+use Rattle.dp_ring.specs.Views.{Side, base, slot_place, awaited_word, awaited_number}
 use Rattle.dp_ring.specs.Turns.{IsHeldBy, InTurn, item_of}
 
 module _ {T Key : Type 0} (is_put is_given : Key → ℕ → T → Type 0) (key : Key) (n : ℕ) (s : State (Option T) (View Key)) where
@@ -26,7 +26,8 @@ module _ {T Key : Type 0} (is_put is_given : Key → ℕ → T → Type 0) (key 
   pub record Ruled : Type 0 where
     -- an in-word of 2 r serves the least ticket of its slot that is not put, and one of 2 r + 1 the greatest that is
     pub inward_turns : (j : ℕ) (v : View Key) → IsSeat j v → v.phase ≡ Putting → (k : ℕ) → k < n
-        → (r : ℕ) × (((in_word k ≡ 2 * r) × (v.at ≤ r * n + k) × (r * n + k < v.at + n)) ⊎ ((in_word k ≡ 2 * r + 1) × (r * n + k < v.at) × (v.at ≤ r * n + k + n)))
+        → (r : ℕ) × (((in_word k ≡ 2 * r) × (v.at ≤ r * n + k) × (r * n + k < v.at + n)) ⊎ ((in_word k ≡ 2 * r + 1) × (r * n + k < v.at)
+        × (v.at ≤ r * n + k + n)))
     -- an out-word serves the least ticket of its slot that is not collected
     pub outward_turns : (j : ℕ) (v : View Key) → IsSeat j v → v.phase ≡ Collecting → (k : ℕ) → k < n
         → (r : ℕ) × ((out_word k ≡ 2 * r) ⊎ (out_word k ≡ 2 * r + 1)) × (v.at ≤ r * n + k) × (r * n + k < v.at + n)
@@ -41,13 +42,15 @@ module _ {T Key : Type 0} (is_put is_given : Key → ℕ → T → Type 0) (key 
     pub taken_drawn : (t : ℕ) → 2 * (t / n) + 2 ≤ in_word (t % n) → t < drawn
     pub given_drawn : (t : ℕ) → 2 * (t / n) + 1 ≤ out_word (t % n) → t < drawn
     -- what was found stands, the slot is lent, and no other seat has it
-    pub found : (j : ℕ) (v : View Key) → IsSeat j v → v.found ≡ true → (slice_index_or s.words (awaited_word n v) 0 ≡ awaited_number n v) × (get_elem? s.homes (place n v) ≡ some none)
-    pub found_alone : (i j : ℕ) (u v : View Key) → IsSeat i u → IsSeat j v → u.found ≡ true → v.found ≡ true → place n u ≡ place n v → i ≡ j
+    pub found : (j : ℕ) (v : View Key) → IsSeat j v → v.found ≡ true → (slice_index_or s.words (awaited_word n v) 0 ≡ awaited_number n v)
+        × (get_elem? s.homes (slot_place n v) ≡ some none)
+    pub found_alone : (i j : ℕ) (u v : View Key) → IsSeat i u → IsSeat j v → u.found ≡ true → v.found ≡ true → slot_place n u ≡ slot_place n v → i ≡ j
     -- each seat knows the ring's key
     pub keyed : (j : ℕ) (v : View Key) → IsSeat j v → v.key ≡ Some key
     -- a slot at home is full exactly where its word is odd
     pub at_home : (d : Side) (k : ℕ) (y : Option T) → k < n → get_elem? s.homes (base n d + k) ≡ some (some y)
-        → (r : ℕ) × (((slice_index_or s.words (base n d + k + 1) 0 ≡ 2 * r) × (y ≡ None)) ⊎ ((slice_index_or s.words (base n d + k + 1) 0 ≡ 2 * r + 1) × ((x : T) × (y ≡ Some x) × item_of is_put is_given key d (r * n + k) x)))
+        → (r : ℕ) × (((slice_index_or s.words (base n d + k + 1) 0 ≡ 2 * r) × (y ≡ None)) ⊎ ((slice_index_or s.words (base n d + k + 1) 0 ≡ 2 * r + 1)
+        × ((x : T) × (y ≡ Some x) × item_of is_put is_given key d (r * n + k) x)))
 
 -- what a ring keeps between any two steps gives all this, in a ring of n slots a side
 abbrev pub TurnsAreRuled : {T Key : Type 0} → (Key → ℕ → T → Type 0) → (Key → ℕ → T → Type 0) → Key → Type 0

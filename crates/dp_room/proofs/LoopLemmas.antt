@@ -7,7 +7,8 @@ module _ {P A Q : Type 0} (F : P → List A → Q) (step : P → A → P) (more 
     (xs : List A) (i : ℕ) (p : P) (whole : Q) (so_far : whole ≡ F p (drop i xs)) where
   pub fold_more : (a : A) → i < length xs → a ≡ get_or xs i a → (q : P) → q ≡ step p a → whole ≡ F q (drop (i + 1) xs)
   fold_more a below is q moved =
-      so_far ∙ at_drop_more (F p) xs i a below ∙ ap (λ y. F p (y ∷ drop (i + 1) xs)) (sym is) ∙ more p a (drop (i + 1) xs) ∙ ap (λ r. F r (drop (i + 1) xs)) (sym moved)
+      so_far ∙ at_drop_more (F p) xs i a below ∙ ap (λ y. F p (y ∷ drop (i + 1) xs)) (sym is) ∙ more p a (drop (i + 1) xs)
+      ∙ ap (λ r. F r (drop (i + 1) xs)) (sym moved)
 
   pub fold_end : length xs ≤ i → whole ≡ F p []
   fold_end over = so_far ∙ at_drop_all (F p) xs i over

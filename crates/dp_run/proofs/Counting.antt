@@ -1,5 +1,6 @@
 -- The plans one after the other: their regions' numbers, their reports, and how many iterations were committed.
-use Rattle.std.proofs.Common.{◌≡◌, sym, ap, ◌∙◌, ℕ, zero, suc, ◌+◌, ◌*◌, ◌<◌, ◌≤◌, ◌^◌, Bool, List, [], ◌∷◌, ◌++◌, append_assoc, length, map, take, Some, slice_get, arith}
+use Rattle.std.proofs.Common.{◌≡◌, sym, ap, ◌∙◌, ℕ, zero, suc, ◌+◌, ◌*◌, ◌<◌, ◌≤◌, ◌^◌, Bool, List, [], ◌∷◌, ◌++◌, append_assoc, length, map, take, Some}
+use Rattle.std.proofs.Common.{slice_get, arith}
 use Rattle.std.proofs.lemmas.List.{append-nil, length-take, map-append, length-map}
 use Rattle.dp_base.specs.declared.RegionReport.{RegionReport}
 use Rattle.dp_tree.specs.declared.Program.{Program}
@@ -21,7 +22,8 @@ use Rattle.std.proofs.lemmas.Option.{slice_get_within, get_or_from_slice_get}
 use Rattle.dp_tree.proofs.NumberLists.{length-numbers_from}
 
 -- the plan at a place of a list whose numbers begin with k
-each_at : (p : Program) (plans : List Plan) (k n count : ℕ) (plan : Plan) → Each (IsPlan p) plans → map region_of plans ≡ numbers_from k count → slice_get plans n ≡ Some plan → IsPlan p plan × (plan.region ≡ k + n) × (n < count)
+each_at : (p : Program) (plans : List Plan) (k n count : ℕ) (plan : Plan) → Each (IsPlan p) plans → map region_of plans ≡ numbers_from k count →
+    slice_get plans n ≡ Some plan → IsPlan p plan × (plan.region ≡ k + n) × (n < count)
 each_at p [] k n count plan each numbers is = absurd (cc is)
 each_at p (x ∷ plans) k zero zero plan each numbers is = absurd (cc numbers)
 each_at p (x ∷ plans) k zero (suc count) plan each numbers is =
@@ -51,8 +53,14 @@ module _ (p : Program) (n : ℕ) (plans : List Plan) (given : AreNext p n plans)
 -- plans for all regions are those behind none
 pub all_next : (p : Program) (plans : List Plan) → AreGiven p plans → AreNext p 0 plans
 all_next p plans given =
-    let many : length plans ≡ length p.regions = sym (length-map plans region_of) ∙ ap (λ (ns : List ℕ). length ns) given.plans_are.regions ∙ length-numbers_from 1 (length p.regions) in
-    record { inlined = given.inlined; regions = given.plans_are.regions ∙ ap (numbers_from 1) (sym many); within = omega (arith, many); each = given.plans_are.each }
+    let many : length plans ≡ length p.regions = sym (length-map plans region_of) ∙ ap (λ (ns : List ℕ). length ns) given.plans_are.regions
+    ∙ length-numbers_from 1 (length p.regions) in
+    record {
+      inlined = given.inlined;
+      regions = given.plans_are.regions ∙ ap (numbers_from 1) (sym many);
+      within = omega (arith, many);
+      each = given.plans_are.each;
+    }
 
 pub as_many : (p : Program) (plans : List Plan) → AreGiven p plans → length plans ≡ length p.regions
 as_many p plans given = sym (length-map plans region_of) ∙ ap (λ (ns : List ℕ). length ns) given.plans_are.regions ∙ length-numbers_from 1 (length p.regions)
@@ -72,16 +80,21 @@ module _ {why : Bool} (p : Program) (plans : List Plan) (run : Run) where
   counted_none told before now same = record { reports_are = sym (append-nil told); tally_is = omega (arith, same) }
 
   -- one region more
-  pub counted_next : (n : ℕ) (plan : Plan) → slice_get plans n ≡ Some plan → (told reports more : List RegionReport) (before mid now : ℕ) → Counted why p plans run n told reports before mid →
-      more ≡ reports ++ told_when why (region_report p plan run) ∷ [] → now ≡ mid + committed_count p plan run → Counted why p plans run (suc n) told more before now
+  pub counted_next : (n : ℕ) (plan : Plan) → slice_get plans n ≡ Some plan → (told reports more : List RegionReport) (before mid now : ℕ) →
+      Counted why p plans run n told reports before mid →
+      more ≡ reports ++ told_when why (region_report p plan run) ∷ [] → now ≡ mid + committed_count p plan run →
+      Counted why p plans run (suc n) told more before now
   counted_next n plan is told reports more before mid now c e f = record {
-    reports_are = e ∙ ap (λ (rs : List RegionReport). rs ++ told_when why (region_report p plan run) ∷ []) c.reports_are ∙ append_assoc told (told_reports why p (take n plans) run) (told_when why (region_report p plan run) ∷ [])
-        ∙ ap (λ (rs : List RegionReport). told ++ rs) (sym (map-append (λ x. told_when why (region_report p x run)) (take n plans) (plan ∷ [])) ∙ ap (λ (xs : List Plan). told_reports why p xs run) (sym (take_next plans n plan is)));
+    reports_are = e ∙ ap (λ (rs : List RegionReport). rs ++ told_when why (region_report p plan run) ∷ []) c.reports_are
+        ∙ append_assoc told (told_reports why p (take n plans) run) (told_when why (region_report p plan run) ∷ [])
+        ∙ ap (λ (rs : List RegionReport). told ++ rs) (sym (map-append (λ x. told_when why (region_report p x run)) (take n plans) (plan ∷ []))
+        ∙ ap (λ (xs : List Plan). told_reports why p xs run) (sym (take_next plans n plan is)));
     tally_is = let one = in_all_append p run (take n plans) (plan ∷ []) in
         let all = ap (λ (xs : List Plan). committed_in_all p xs run) (take_next plans n plan is) in omega (arith, f, c.tally_is, one, all);
   }
 
   -- there is room for a verdict for each step
-  pub room : run.fuel ≤ 1000000000 → (n : ℕ) → n < 2 ^ 32 → (told reports : List RegionReport) (before now left : ℕ) → before < 2 ^ 63 → left ≤ 1000000000 → Counted why p plans run n told reports before now → now + left < 2 ^ 64
+  pub room : run.fuel ≤ 1000000000 → (n : ℕ) → n < 2 ^ 32 → (told reports : List RegionReport) (before now left : ℕ) → before < 2 ^ 63 → left ≤ 1000000000 →
+      Counted why p plans run n told reports before now → now + left < 2 ^ 64
   room h n few told reports before now left start most c =
       let all = in_all_few p run h (take n plans) in let size = take_few n plans in omega (arith, all, size, few, start, most, h, c.tally_is)

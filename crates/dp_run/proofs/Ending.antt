@@ -1,5 +1,6 @@
 -- From the machine's end to the run's text.
-use Rattle.std.proofs.Common.{◌≡◌, refl, sym, ap, ◌∙◌, ℕ, zero, suc, ◌+◌, ◌-◌, ◌==◌, Bool, true, false, ◌≤◌, if◌then◌else◌, List, [], ◌∷◌, ◌++◌, length, map, take, drop, get_or, min, All, arith}
+use Rattle.std.proofs.Common.{◌≡◌, refl, sym, ap, ◌∙◌, ℕ, zero, suc, ◌+◌, ◌-◌, ◌==◌, Bool, true, false, ◌≤◌, if◌then◌else◌, List, [], ◌∷◌, ◌++◌, length, map}
+use Rattle.std.proofs.Common.{take, drop, get_or, min, All, arith}
 use Rattle.std.proofs.lemmas.List.{length-take, length-map, map-append}
 use Rattle.std.proofs.lemmas.List.Elements.{All-map}
 use Rattle.std.proofs.Math.Nat.{min_comm}
@@ -33,14 +34,16 @@ module _ (p : Program) (run : Run) where
   listed_once false plan = length-take 1000 (recovered p plan run) ∙ min_comm 1000 (length (recovered p plan run))
 
   pub listed_in : (why : Bool) (plans : List Plan) → All IsListed (told_reports why p plans run)
-  listed_in why plans = All-map IsListed (λ plan. told_when why (region_report p plan run)) plans (all_each (λ plan. IsListed (told_when why (region_report p plan run))) (listed_once why) plans)
+  listed_in why plans = All-map IsListed (λ plan. told_when why (region_report p plan run)) plans
+      (all_each (λ plan. IsListed (told_when why (region_report p plan run))) (listed_once why) plans)
 
   explained_once : (why : Bool) → why ≡ true → (plan : Plan) → IsExplained (told_when why (region_report p plan run))
   explained_once true asked plan = length-map (take 1000 (recovered p plan run)) (λ i. reported (cause p plan run i))
   explained_once false asked plan = absurd (cc asked)
 
   pub explained_in : (why : Bool) → why ≡ true → (plans : List Plan) → All IsExplained (told_reports why p plans run)
-  explained_in why asked plans = All-map IsExplained (λ plan. told_when why (region_report p plan run)) plans (all_each (λ plan. IsExplained (told_when why (region_report p plan run))) (explained_once why asked) plans)
+  explained_in why asked plans = All-map IsExplained (λ plan. told_when why (region_report p plan run)) plans
+      (all_each (λ plan. IsExplained (told_when why (region_report p plan run))) (explained_once why asked) plans)
 
   -- where causes aren't asked for, the text doesn't look at them
   told_lines : (why : Bool) (report : RegionReport) → report_lines why (told_when why report) ≡ report_lines why report
@@ -59,14 +62,16 @@ module _ (p : Program) (run : Run) where
   -- A region that wasn't reached has no line ..
   silent : (why : Bool) (plan : Plan) → starts run plan.region ≡ [] → report_lines why (region_report p plan run) ≡ []
   silent why plan e =
-      ap (λ (n : ℕ). if◌then◌else◌ {A = List ℕ} (n == 0) [] (counts_line plan.region n (region_report p plan run).recovered_count (region_report p plan run).recovered ++ causes_if why (region_report p plan run)))
+      ap (λ (n : ℕ). if◌then◌else◌ {A = List ℕ} (n == 0) [] (counts_line plan.region n (region_report p plan run).recovered_count
+      (region_report p plan run).recovered ++ causes_if why (region_report p plan run)))
       (none_begun plan e)
 
   -- .. and no committed iteration
   none_committed : (plan : Plan) → starts run plan.region ≡ [] → committed_count p plan run ≡ 0
   none_committed plan e = let none = none_begun plan e in omega (arith, none)
 
-  pub silent_in : (why : Bool) (k : ℕ) (plans : List Plan) → ((r : ℕ) → k ≤ r → starts run r ≡ []) → (count : ℕ) → map region_of plans ≡ numbers_from k count → regions_bytes why (region_reports p plans run) ≡ []
+  pub silent_in : (why : Bool) (k : ℕ) (plans : List Plan) → ((r : ℕ) → k ≤ r → starts run r ≡ []) → (count : ℕ) → map region_of plans ≡ numbers_from k count →
+      regions_bytes why (region_reports p plans run) ≡ []
   silent_in why k [] none count numbers = refl
   silent_in why k (x ∷ plans) none zero numbers = absurd (cc numbers)
   silent_in why k (x ∷ plans) none (suc count) numbers =
@@ -75,7 +80,8 @@ module _ (p : Program) (run : Run) where
       ap (λ (line : List ℕ). line ++ regions_bytes why (region_reports p plans run)) (silent why x (none x.region (omega (arith, first))))
       ∙ silent_in why (k + 1) plans (λ r h. none r (omega (arith, h))) count rest
 
-  pub none_in : (k : ℕ) (plans : List Plan) → ((r : ℕ) → k ≤ r → starts run r ≡ []) → (count : ℕ) → map region_of plans ≡ numbers_from k count → committed_in_all p plans run ≡ 0
+  pub none_in : (k : ℕ) (plans : List Plan) → ((r : ℕ) → k ≤ r → starts run r ≡ []) → (count : ℕ) → map region_of plans ≡ numbers_from k count →
+      committed_in_all p plans run ≡ 0
   none_in k [] none count numbers = refl
   none_in k (x ∷ plans) none zero numbers = absurd (cc numbers)
   none_in k (x ∷ plans) none (suc count) numbers =
@@ -92,8 +98,10 @@ module _ (p : Program) (run : Run) where
   in_all_append (x ∷ a) b = let go = in_all_append a b in omega (arith, go)
 
 -- the numbers behind the first n
-pub numbers_behind : (n : ℕ) (plans : List Plan) (k count : ℕ) → n ≤ length plans → map region_of plans ≡ numbers_from k count → map region_of (drop n plans) ≡ numbers_from (n + k) (count - n)
-numbers_behind zero plans k count h e = let a : 0 + k ≡ k = omega arith in let b : count - 0 ≡ count = omega arith in e ∙ ap (λ (j : ℕ). numbers_from j count) (sym a) ∙ ap (numbers_from (0 + k)) (sym b)
+pub numbers_behind : (n : ℕ) (plans : List Plan) (k count : ℕ) → n ≤ length plans → map region_of plans ≡ numbers_from k count →
+    map region_of (drop n plans) ≡ numbers_from (n + k) (count - n)
+numbers_behind zero plans k count h e = let a : 0 + k ≡ k = omega arith in let b : count - 0 ≡ count = omega arith in
+    e ∙ ap (λ (j : ℕ). numbers_from j count) (sym a) ∙ ap (numbers_from (0 + k)) (sym b)
 numbers_behind (suc n) [] k count h e = absurd (omega (arith, h))
 numbers_behind (suc n) (x ∷ plans) k zero h e = absurd (cc e)
 numbers_behind (suc n) (x ∷ plans) k (suc count) h e =

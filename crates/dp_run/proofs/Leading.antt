@@ -1,5 +1,6 @@
 -- The machine's calls, and the runs of regions, bring the whole run on: from part to part, and to the end.
-use Rattle.std.proofs.Common.{◌≡◌, refl, sym, ap, ◌∙◌, subst, ℕ, suc, ◌+◌, ◌-◌, ◌<◌, true, false, not, drop, List, [], ◌∷◌, ℤ, length, map, Option, Some, None, slice_get, arith}
+use Rattle.std.proofs.Common.{◌≡◌, refl, sym, ap, ◌∙◌, subst, ℕ, suc, ◌+◌, ◌-◌, ◌<◌, true, false, not, drop, List, [], ◌∷◌, ℤ, length, map, Option, Some, None}
+use Rattle.std.proofs.Common.{slice_get, arith}
 use Rattle.dp_base.specs.declared.Fault.{Fault as FaultAt}
 use Rattle.dp_base.specs.declared.End.{End}
 use Rattle.dp_base.specs.declared.End.TheVariants as how
@@ -20,7 +21,7 @@ use Rattle.dp_meaning.specs.PartRun.{PartRun}
 use Rattle.dp_epoch.specs.RegionRun.{beyond}
 use Rattle.dp_run.specs.RunText.{source_run}
 use Rattle.dp_run.specs.Regions.{regions_left}
-use Rattle.dp_run.specs.Stretches.{Passed, Behind, Between, Over, Leads}
+use Rattle.dp_run.specs.Stretches.{HasPassed, Behind, Between, Over, Leads}
 use Rattle.dp_run.proofs.RegionsLeft.{left_from_region, left_finished, left_at_region, Next, next_of, region, nothing, off_plain, off_finished}
 use Rattle.dp_run.proofs.Tops.{regions_numbered}
 use Rattle.dp_run.proofs.Passing.{passed_none, passed_on, starts_behind, off_plain_part, cells_at_end, run_over, config_at, no_start}
@@ -29,13 +30,15 @@ use Rattle.dp_tree.proofs.Heads.{standing_to_do}
 
 module _ (p : Program) (input : List ℤ) (fuel : ℕ) where
   -- the machine at the start of the program
-  pub behind_start : IsInlined p → (m : MachineState) → m ≡ record { program = p; input = input; config = begin p; steps = 0; fuel = fuel; current = None; spoiled = false } → Behind p input fuel (source_run p input fuel) 0 m
+  pub behind_start : IsInlined p → (m : MachineState) →
+      m ≡ record { program = p; input = input; config = begin p; steps = 0; fuel = fuel; current = None; spoiled = false } →
+      Behind p input fuel (source_run p input fuel) 0 m
   behind_start h m is = subst (Behind p input fuel (source_run p input fuel) 0) (sym is) (record {
     begins = record { from = begin p; steps = fuel; stands = begins_in_main p; within = omega arith; run_is = refl };
     program_is = refl;
     input_is = refl;
     fuel_is = refl;
-    passed = subst (λ (rest : Run). Passed (source_run p input fuel) rest 1) (sym all) (passed_none (source_run p input fuel) 1);
+    passed = subst (λ (rest : Run). HasPassed (source_run p input fuel) rest 1) (sym all) (passed_none (source_run p input fuel) 1);
     left = let none : length p.regions - 0 ≡ length p.regions = omega arith in
         ap regions_left (standing_to_do p p.main (start_cells p.vars)) ∙ regions_numbered p h ∙ ap (numbers_from 1) (sym none);
     between = refl;
@@ -47,7 +50,8 @@ module _ (p : Program) (input : List ℤ) (fuel : ℕ) where
 
 module _ (p : Program) (input : List ℤ) (fuel : ℕ) (run : Run) where
   -- The run is over where the machine stands.
-  pub over_at : (n left k : ℕ) (m : MachineState) (why : End) → Passed run (rest_of_run m) k → rest_of_run m ≡ ended left m.config why → ((r : ℕ) → n < r → starts run r ≡ []) → Over run n m why
+  pub over_at : (n left k : ℕ) (m : MachineState) (why : End) → HasPassed run (rest_of_run m) k → rest_of_run m ≡ ended left m.config why →
+      ((r : ℕ) → n < r → starts run r ≡ []) → Over run n m why
   over_at n left k m why a e none = record {
     end_is = a.piece.end ∙ ap (λ (u : Run). u.end) e;
     no_step = ap (λ (u : Run). u.trace) e;
@@ -56,7 +60,8 @@ module _ (p : Program) (input : List ℤ) (fuel : ℕ) (run : Run) where
   }
 
   -- .. in a plain part or behind the last statement
-  over_plain : (n left : ℕ) (m : MachineState) (why : End) → Behind p input fuel run n m → rest_of_run m ≡ ended left m.config why → ((r : ℕ) → not (stands_at_head r m.config) ≡ true) → Over run n m why
+  over_plain : (n left : ℕ) (m : MachineState) (why : End) → Behind p input fuel run n m → rest_of_run m ≡ ended left m.config why →
+      ((r : ℕ) → not (stands_at_head r m.config) ≡ true) → Over run n m why
   over_plain n left m why b e off = over_at n left (suc n) m why b.passed e
       (λ r h. b.passed.ahead r h ∙ ap (map (beyond (length b.passed.events))) (no_start (rest_of_run m) r left m.config why e (off r)))
 
@@ -73,7 +78,8 @@ module _ (p : Program) (input : List ℤ) (fuel : ℕ) (run : Run) where
       input_is = call.went.moved.input ∙ b.input_is;
       fuel_is = call.went.moved.fuel ∙ b.fuel_is;
       passed = passed_on run (rest_of_run old) (rest_of_run new) (suc n) (suc n) (omega arith) b.passed call.went.events call.went.configs call.went.moved.run
-          (λ r h. starts_behind (rest_of_run old) (rest_of_run new) r call.went.events call.went.configs call.went.moved.run (off_plain_part r call.went.configs call.went.plain));
+          (λ r h. starts_behind (rest_of_run old) (rest_of_run new) r call.went.events call.went.configs call.went.moved.run
+          (off_plain_part r call.went.configs call.went.plain));
       left = sym (left_from_region new.config.to_do) ∙ ap regions_left call.went.behind ∙ left_from_region old.config.to_do ∙ b.left;
       between = call.went.current ∙ b.between;
       sound = call.went.spoiled ∙ b.sound;
@@ -90,7 +96,8 @@ module _ (p : Program) (input : List ℤ) (fuel : ℕ) (run : Run) where
         (λ r. off_plain r new.config (plain_at (part_end.Fault fault) call call.stops.0))
 
     pub part_fuel : PartRun turns old new before after part_end.Fuel → Leads p input fuel run n new (Some how.Fuel)
-    part_fuel call = over_plain n 0 new how.Fuel (part_behind part_end.Fuel call) call.stops.1.ends (λ r. off_plain r new.config (plain_at part_end.Fuel call call.stops.0))
+    part_fuel call = over_plain n 0 new how.Fuel (part_behind part_end.Fuel call) call.stops.1.ends
+        (λ r. off_plain r new.config (plain_at part_end.Fuel call call.stops.0))
 
   module _ (n : ℕ) (m : MachineState) (b : Between p input fuel run n m) where
     part_here : next_part m ≡ part_of m.config.to_do
@@ -105,7 +112,8 @@ module _ (p : Program) (input : List ℤ) (fuel : ℕ) (run : Run) where
       where
         by : Next m.config.to_do → part_of m.config.to_do ≡ part.Region (suc n)
         by (region q e) =
-            let ns : q ∷ regions_left (drop 1 m.config.to_do) ≡ suc n ∷ numbers_from (suc n + 1) k = sym (left_at_region q m.config.to_do e) ∙ b.behind.left ∙ ap (numbers_from (suc n)) more in
+            let ns : q ∷ regions_left (drop 1 m.config.to_do) ≡ suc n ∷ numbers_from (suc n + 1) k = sym (left_at_region q m.config.to_do e) ∙ b.behind.left
+            ∙ ap (numbers_from (suc n)) more in
             let number : q ≡ suc n = cc in e ∙ ap part.Region number
         by (nothing e) =
             let ns : [] ≡ suc n ∷ numbers_from (suc n + 1) k = sym (left_finished m.config.to_do e) ∙ b.behind.left ∙ ap (numbers_from (suc n)) more in
@@ -134,7 +142,8 @@ module _ (p : Program) (input : List ℤ) (fuel : ℕ) (run : Run) where
     stands_there : IsInlined p → StandsInMain p m.config
     stands_there h =
         let start = b.begins in
-        stays_in_main p input h.regions start.steps (length b.passed.events + 0) start.from m.config start.stands (subst (λ (u : Run). slice_get u.configs (length b.passed.events + 0) ≡ Some m.config) start.run_is config_there)
+        stays_in_main p input h.regions start.steps (length b.passed.events + 0) start.from m.config start.stands
+        (subst (λ (u : Run). slice_get u.configs (length b.passed.events + 0) ≡ Some m.config) start.run_is config_there)
 
     -- .. and it stands so in the run that begins with it
     pub behind_own : IsInlined p → Behind p input fuel (rest_of_run m) n m
@@ -144,7 +153,8 @@ module _ (p : Program) (input : List ℤ) (fuel : ℕ) (run : Run) where
         steps = fuel_left m;
         stands = stands_there h;
         within = omega (arith, b.fuel_is);
-        run_is = ap (λ (q : Program). run_of q m.input (fuel_left m) m.config) b.program_is ∙ ap (λ (xs : List ℤ). run_of p xs (fuel_left m) m.config) b.input_is;
+        run_is = ap (λ (q : Program). run_of q m.input (fuel_left m) m.config) b.program_is
+            ∙ ap (λ (xs : List ℤ). run_of p xs (fuel_left m) m.config) b.input_is;
       };
       program_is = b.program_is;
       input_is = b.input_is;

@@ -36,6 +36,7 @@ module _ {X : Type 0} (test : X → Bool) where
   places_moved n k (x ∷ a) = by (test x) (let e : suc (n + k) ≡ n + suc k = omega arith in ap (λ (m : ℕ). places test m a) e ∙ places_moved n (suc k) a)
     where
       by : (t : Bool) → places test (suc (n + k)) a ≡ map (beyond n) (places test (suc k) a) →
-          (if t then (n + k) ∷ places test (suc (n + k)) a else places test (suc (n + k)) a) ≡ map (beyond n) (if t then k ∷ places test (suc k) a else places test (suc k) a)
+          (if t then (n + k) ∷ places test (suc (n + k)) a else places test (suc (n + k)) a) ≡ map (beyond n) (if t then k ∷ places test (suc k) a
+          else places test (suc k) a)
       by true next = ap (λ (ks : List ℕ). (n + k) ∷ ks) next
       by false next = next

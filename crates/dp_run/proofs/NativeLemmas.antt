@@ -34,7 +34,8 @@ module _ (old mid : MachineState) (x y : List ℤ) (next : next_part old ≡ Pla
       record { turns = length went.events; some = omega (arith, some, steps); call = record { went = went; within = omega arith; stops = (plain, left, refl) } }
 
   module _ (turns : ℕ) (some : 0 < turns) (new : MachineState) (z : List ℤ) where
-    stops_on : (end : PartEnd) (made all : ℕ) → all ≡ length went.events + made → PartStops turns made mid new end → PartStops (length went.events + turns) all old new end
+    stops_on : (end : PartEnd) (made all : ℕ) → all ≡ length went.events + made → PartStops turns made mid new end →
+        PartStops (length went.events + turns) all old new end
     stops_on Done made all e s = record { part = s.part; rest = s.rest ∙ went.behind }
     stops_on (Fault fault) made all e s = let less = s.1 in (s.0, omega (arith, less, e), s.2)
     stops_on Fuel made all e s = s
@@ -56,6 +57,7 @@ module _ (old mid : MachineState) (x y : List ℤ) (next : next_part old ≡ Pla
         }
 
     -- the machine went on
-    pub machine_call : (r : Result PartEnd NoMemory) → MatchResult r (PartRun turns mid new y z) (λ _. Spoiled turns mid new y z) → IfOk r (PartCall old new x z)
+    pub machine_call : (r : Result PartEnd NoMemory) → MatchResult r (PartRun turns mid new y z) (λ _. Spoiled turns mid new y z) →
+        IfOk r (PartCall old new x z)
     machine_call (Ok end) run = call_on end run
     machine_call (Err why) run = tt

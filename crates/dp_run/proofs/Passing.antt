@@ -1,5 +1,6 @@
 -- Runs that begin with some steps, and the regions that weren't reached in them.
-use Rattle.std.proofs.Common.{◌≡◌, refl, sym, ap, ◌∙◌, ℕ, zero, suc, ◌+◌, ◌≤◌, true, not, List, [], ◌∷◌, ◌++◌, ℤ, length, map, All, length-append, slice_get, arith}
+use Rattle.std.proofs.Common.{◌≡◌, refl, sym, ap, ◌∙◌, ℕ, zero, suc, ◌+◌, ◌≤◌, true, not, List, [], ◌∷◌, ◌++◌, ℤ, length, map, All, length-append, slice_get}
+use Rattle.std.proofs.Common.{arith}
 use Rattle.std.proofs.lemmas.Bool.{and_from}
 use Rattle.std.proofs.lemmas.List.Elements.{All-weaker}
 use Rattle.std.proofs.lemmas.List.Sums.{list_all-from_AllPass}
@@ -15,7 +16,7 @@ use Rattle.dp_meaning.specs.declared.ends.Part.TheVariants as part
 use Rattle.dp_meaning.specs.Continues.{Continues}
 use Rattle.dp_meaning.specs.MachineState.{part_of}
 use Rattle.dp_epoch.specs.RegionRun.{beyond}
-use Rattle.dp_run.specs.Stretches.{Passed}
+use Rattle.dp_run.specs.Stretches.{HasPassed}
 use Rattle.dp_run.proofs.Lists.{beyond_none, beyond_twice, places_moved, no_places}
 use Rattle.dp_run.proofs.RegionsLeft.{off_plain, nothing_left}
 use Rattle.dp_meaning.proofs.ContinuesLemmas.{continues_none, continues_join}
@@ -24,7 +25,8 @@ use Rattle.dp_commit.proofs.Lists.{places_behind}
 use Rattle.dp_room.proofs.ListLemmas.{get_behind}
 
 -- Where region r is at the head of none of a piece's configurations, its starts are those behind the piece.
-pub starts_behind : (run rest : Run) (r : ℕ) (events : List Event) (configs : List Config) → Continues run events configs rest → list_all (λ c. not (stands_at_head r c)) configs ≡ true →
+pub starts_behind : (run rest : Run) (r : ℕ) (events : List Event) (configs : List Config) → Continues run events configs rest →
+    list_all (λ c. not (stands_at_head r c)) configs ≡ true →
     starts run r ≡ map (beyond (length events)) (starts rest r)
 starts_behind run rest r events configs c off =
     let size : 0 + length configs ≡ length events + 0 = omega (arith, c.paired) in
@@ -33,13 +35,15 @@ starts_behind run rest r events configs c off =
 
 -- within a plain part no region is at the head
 pub off_plain_part : (r : ℕ) (configs : List Config) → All (λ c. part_of c.to_do ≡ part.Plain) configs → list_all (λ c. not (stands_at_head r c)) configs ≡ true
-off_plain_part r configs h = list_all-from_AllPass (λ c. not (stands_at_head r c)) configs (All-weaker (λ c. part_of c.to_do ≡ part.Plain) (λ c. not (stands_at_head r c) ≡ true) (off_plain r) configs h)
+off_plain_part r configs h = list_all-from_AllPass (λ c. not (stands_at_head r c)) configs (All-weaker (λ c. part_of c.to_do ≡ part.Plain)
+    (λ c. not (stands_at_head r c) ≡ true) (off_plain r) configs h)
 
-pub passed_none : (run : Run) (k : ℕ) → Passed run run k
+pub passed_none : (run : Run) (k : ℕ) → HasPassed run run k
 passed_none run k = record { events = []; configs = []; piece = continues_none run; ahead = λ r h. sym (beyond_none (starts run r)) }
 
-pub passed_on : (run here rest : Run) (k j : ℕ) → k ≤ j → Passed run here k → (events : List Event) (configs : List Config) → Continues here events configs rest →
-    ((r : ℕ) → j ≤ r → starts here r ≡ map (beyond (length events)) (starts rest r)) → Passed run rest j
+pub passed_on : (run here rest : Run) (k j : ℕ) → k ≤ j → HasPassed run here k → (events : List Event) (configs : List Config) →
+    Continues here events configs rest →
+    ((r : ℕ) → j ≤ r → starts here r ≡ map (beyond (length events)) (starts rest r)) → HasPassed run rest j
 passed_on run here rest k j later a events configs c ahead = record {
   events = a.events ++ events;
   configs = a.configs ++ configs;
@@ -72,4 +76,5 @@ module _ (p : Program) (input : List ℤ) where
 
 -- a region that isn't at the head of the last configuration has no start in a run that is over
 pub no_start : (rest : Run) (r n : ℕ) (last : Config) (how : End) → rest ≡ ended n last how → not (stands_at_head r last) ≡ true → starts rest r ≡ []
-no_start rest r n last how e off = ap (λ (u : Run). starts u r) e ∙ no_places (stands_at_head r) 0 (last ∷ []) (and_from (not (stands_at_head r last)) true off refl)
+no_start rest r n last how e off =
+    ap (λ (u : Run). starts u r) e ∙ no_places (stands_at_head r) 0 (last ∷ []) (and_from (not (stands_at_head r last)) true off refl)

@@ -38,5 +38,6 @@ module _ (p : Program) (plans : List Plan) (regions : List Prepared) (are : regi
   of_program = subst (AreOf p) (sym are) (are_prepared p plans)
 
 -- the program with these plans
-pub shown_as : (p : Program) (plans other : List Plan) → plans ≡ other → ◌≡◌ {A = PlannedProgram} (record { program = p; plans = plans }) (record { program = p; plans = other })
+pub shown_as : (p : Program) (plans other : List Plan) → plans ≡ other → ◌≡◌ {A = PlannedProgram} (record { program = p; plans = plans })
+    (record { program = p; plans = other })
 shown_as p plans other same = λ i. record { program = p; plans = same i }

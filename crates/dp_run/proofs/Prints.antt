@@ -1,5 +1,6 @@
 -- What is to be printed, and what was written of it.
-use Rattle.std.proofs.Common.{◌≡◌, refl, sym, ap, ◌∙◌, append_assoc, ℕ, zero, suc, ◌-◌, ◌≤◌, if◌then◌else◌, Bool, List, ◌∷◌, ◌++◌, ℤ, take, drop, nat_lt, Option, Some, slice_get, arith}
+use Rattle.std.proofs.Common.{◌≡◌, refl, sym, ap, ◌∙◌, append_assoc, ℕ, zero, suc, ◌-◌, ◌≤◌, if◌then◌else◌, Bool, List, ◌∷◌, ◌++◌, ℤ, take, drop, nat_lt}
+use Rattle.std.proofs.Common.{Option, Some, slice_get, arith}
 use Rattle.std.proofs.lemmas.List.{take-append-drop}
 use Rattle.std.proofs.lemmas.List.Sums.{count_by-le-length}
 use Rattle.dp_room.proofs.ListLemmas.{at_index}
@@ -27,7 +28,8 @@ use Rattle.dp_crew.proofs.StreamLemmas.{emits_ahead, front_ahead, prints-split}
 use Rattle.dp_commit.proofs.Parts.{run_begins}
 
 -- The steps of a call print what was to come.
-pub part_to_come : (turns : ℕ) (old new : MachineState) (before after : List ℤ) (end : PartEnd) → PartRun turns old new before after end → before ++ to_come old ≡ after ++ to_come new
+pub part_to_come : (turns : ℕ) (old new : MachineState) (before after : List ℤ) (end : PartEnd) → PartRun turns old new before after end →
+    before ++ to_come old ≡ after ++ to_come new
 part_to_come turns old new before after end call =
     ap (λ (zs : List ℤ). before ++ zs) (prints_on (rest_of_run old) (rest_of_run new) call.went.events call.went.configs call.went.moved.run)
     ∙ sym (append_assoc before (prints call.went.events) (to_come new))
@@ -68,7 +70,8 @@ module _ (m : MachineState) (r : ℕ) (here : part_of m.config.to_do ≡ part.Re
   first_here =
       let begins = run_begins m.program m.input (fuel_left m) m.config in
       let more = places (stands_at_head r) 1 begins.0 in
-      ap (λ (cs : List Config). slice_get (places (stands_at_head r) 0 cs) 0) begins.1 ∙ ap (λ (t : Bool). slice_get (if t then 0 ∷ more else more) 0) (on_region r m.config here)
+      ap (λ (cs : List Config). slice_get (places (stands_at_head r) 0 cs) 0) begins.1 ∙ ap (λ (t : Bool). slice_get (if t then 0 ∷ more else more) 0)
+      (on_region r m.config here)
 
   first_events : (n : ℕ) → n ≤ begun_count run r → (k : ℕ) × (events_of_first run r n ≡ take k run.trace)
   first_events zero h = (0, refl)
@@ -88,8 +91,10 @@ module _ (m : MachineState) (r : ℕ) (here : part_of m.config.to_do ≡ part.Re
             ∙ ap (λ (es : List Event). prints es ++ prints (drop first.0 run.trace)) (sym first.1);
       }
 
-  pub region_front : (told tells : Option (List ℕ)) → WritesFront (prints_bytes (region_prints run r)) told tells → WritesFront (prints_bytes (to_come m)) told tells
+  pub region_front : (told tells : Option (List ℕ)) → WritesFront (prints_bytes (region_prints run r)) told tells →
+      WritesFront (prints_bytes (to_come m)) told tells
   region_front told tells w =
       let s = region_splits in
-      let all : prints_bytes (to_come m) ≡ prints_bytes (region_prints run r) ++ prints_bytes s.rest = ap prints_bytes s.is ∙ prints-split (region_prints run r) s.rest in
+      let all : prints_bytes (to_come m) ≡ prints_bytes (region_prints run r) ++ prints_bytes s.rest = ap prints_bytes s.is
+      ∙ prints-split (region_prints run r) s.rest in
       rw all (front_more (prints_bytes (region_prints run r)) (prints_bytes s.rest) told tells w)

@@ -1,5 +1,6 @@
 -- A region that comes next: what it prints comes before a later region is reached.
-use Rattle.std.proofs.Common.{◌≡◌, refl, sym, ap, ap₂, ◌∙◌, ℕ, zero, suc, ◌+◌, ◌-◌, ◌<◌, ◌≤◌, true, List, [], ◌∷◌, ◌++◌, ℤ, append-nil, length, filter, take, take-add, drop, Option, Some, None, slice_get, eq-eqb, inl, inr, arith}
+use Rattle.std.proofs.Common.{◌≡◌, refl, sym, ap, ap₂, ◌∙◌, ℕ, zero, suc, ◌+◌, ◌-◌, ◌<◌, ◌≤◌, true, List, [], ◌∷◌, ◌++◌, ℤ, append-nil, length, filter, take}
+use Rattle.std.proofs.Common.{take-add, drop, Option, Some, None, slice_get, eq-eqb, inl, inr, arith}
 use Rattle.std.proofs.lemmas.Bool.{cases_lt}
 use Rattle.std.proofs.lemmas.List.{length-take, take-append-drop}
 use Rattle.std.proofs.lemmas.List.Elements.{filter-append}
@@ -30,7 +31,8 @@ use Rattle.dp_run.proofs.Prints.{first_here}
 use Rattle.dp_run.proofs.RegionsLeft.{on_region}
 use Rattle.dp_run.proofs.Tops.{regions_numbered}
 
-module _ (m : MachineState) (inlined : IsInlined m.program) (r : ℕ) (once : StandsOnce m.program r) (stands : StandsInMain m.program m.config) (comes : part_of m.config.to_do ≡ part.Region r) where
+module _ (m : MachineState) (inlined : IsInlined m.program) (r : ℕ) (once : StandsOnce m.program r) (stands : StandsInMain m.program m.config)
+    (comes : part_of m.config.to_do ≡ part.Region r) where
   abbrev run : Run
   run = rest_of_run m
 
@@ -61,7 +63,8 @@ module _ (m : MachineState) (inlined : IsInlined m.program) (r : ℕ) (once : St
 
     kept_there : keeps_all (is_other_site m.program r) r there.found.to_do ≡ true
     kept_there =
-        let a = stands_at_region m.program q there.found (stays_in_main m.program m.input inlined.regions (fuel_left m) j m.config there.found stands there.at) there.passes in
+        let a = stands_at_region m.program q there.found (stays_in_main m.program m.input inlined.regions (fuel_left m) j m.config there.found stands
+        there.at) there.passes in
         ap (keeps_all (is_other_site m.program r) r) a.left
         ∙ none_later m.program r region here once.behind once.later a.statement a.rest q less a.at a.before once.before 1 (length m.program.regions)
         (ap regions_left (sym once.main_is) ∙ regions_numbered m.program inlined) (sym a.main_is ∙ once.main_is)
@@ -76,7 +79,8 @@ module _ (m : MachineState) (inlined : IsInlined m.program) (r : ℕ) (once : St
     own_before : length within.own ≤ j
     own_before =
         let all : only run.trace ≡ within.own =
-        ap only within.trace_is ∙ filter-append (is_event_of m.program r) within.own within.behind ∙ ap₂ (λ (xs ys : List Event). xs ++ ys) within.all_own within.none_behind ∙ append-nil within.own in
+        ap only within.trace_is ∙ filter-append (is_event_of m.program r) within.own within.behind
+        ∙ ap₂ (λ (xs ys : List Event). xs ++ ys) within.all_own within.none_behind ∙ append-nil within.own in
         let parts : only run.trace ≡ only (take j run.trace) =
         ap only (sym (take-append-drop j run.trace)) ∙ filter-append (is_event_of m.program r) (take j run.trace) (drop j run.trace)
         ∙ ap (λ (es : List Event). only (take j run.trace) ++ es) none_own ∙ append-nil (only (take j run.trace)) in
@@ -94,7 +98,8 @@ module _ (m : MachineState) (inlined : IsInlined m.program) (r : ℕ) (once : St
           let f = found_at (stands_at_head r) run.configs a k s in
           let place : j + (k - j) ≡ k = omega (arith, high) in
           let on = goes_on m.program m.input (fuel_left m) j q m.config there.found there.at in
-          let at : slice_get rest.configs (k - j) ≡ Some f.found = ap (λ (cs : List Config). slice_get cs (k - j)) (sym on.configs) ∙ sym (at_drop j (k - j) run.configs) ∙ ap (slice_get run.configs) place ∙ f.at in
+          let at : slice_get rest.configs (k - j) ≡ Some f.found = ap (λ (cs : List Config). slice_get cs (k - j)) (sym on.configs)
+          ∙ sym (at_drop j (k - j) run.configs) ∙ ap (slice_get run.configs) place ∙ f.at in
           absurd (no_place (stands_at_head r) rest.configs 0 (k - j) f.found (quiet_there.no_start 0) at f.passes)
     ]
 
@@ -103,7 +108,8 @@ module _ (m : MachineState) (inlined : IsInlined m.program) (r : ℕ) (once : St
     stop_before a k s (Some next) e = let low = start_before (suc a) next e in omega (arith, low)
 
     -- so what its first iterations print is a front of what is printed up to there
-    pub prints_before : (count : ℕ) → count ≤ length (starts (rest_of_run m) r) → (more : List ℤ) × (prints (take j (rest_of_run m).trace) ≡ prints (events_of_first (rest_of_run m) r count) ++ more)
+    pub prints_before : (count : ℕ) → count ≤ length (starts (rest_of_run m) r) → (more : List ℤ)
+        × (prints (take j (rest_of_run m).trace) ≡ prints (events_of_first (rest_of_run m) r count) ++ more)
     prints_before zero h = (prints (take j run.trace), refl)
     prints_before (suc a) h =
         let at = at_index (starts run r) a (omega (arith, h)) in

@@ -19,7 +19,8 @@ use Rattle.dp_run.proofs.RegionsLeft.{left_at_region}
 use Rattle.dp_run.proofs.Passing.{passed_on}
 use Rattle.dp_run.proofs.Leading.{region_next, next_is, stands_here, over_at}
 
-module _ (p : Program) (plan : Plan) (input : List ℤ) (fuel : ℕ) (run : Run) (n : ℕ) (m : MachineState) (planned : IsPlanned p plan) (number : plan.region ≡ suc n) (b : Between p input fuel run n m) where
+module _ (p : Program) (plan : Plan) (input : List ℤ) (fuel : ℕ) (run : Run) (n : ℕ) (m : MachineState) (planned : IsPlanned p plan)
+    (number : plan.region ≡ suc n) (b : Between p input fuel run n m) where
   more : length p.regions - n ≡ suc (length p.regions - suc n)
   more = omega (arith, planned.known, number)
 
@@ -49,7 +50,8 @@ module _ (p : Program) (plan : Plan) (input : List ℤ) (fuel : ℕ) (run : Run)
   other r h = λ e. absurd (omega (arith, e, h, number))
 
   module _ (last : MachineState) where
-    region_over : (left : ℕ) (why : End) → RegionMade p plan m last → RegionStops plan m → rest_of_run last ≡ ended left last.config why → Over run (suc n) last why
+    region_over : (left : ℕ) (why : End) → RegionMade p plan m last → RegionStops plan m → rest_of_run last ≡ ended left last.config why →
+        Over run (suc n) last why
     region_over left why made stops e =
         over_at p input fuel run (suc n) left (suc (suc n)) last why
         (passed_on run (rest_of_run m) (rest_of_run last) (suc n) (suc (suc n)) (omega arith) b.behind.passed
@@ -63,7 +65,8 @@ module _ (p : Program) (plan : Plan) (input : List ℤ) (fuel : ℕ) (run : Run)
       input_is = ran.made.input ∙ b.behind.input_is;
       fuel_is = ran.made.fuel ∙ b.behind.fuel_is;
       passed = passed_on run (rest_of_run m) (rest_of_run last) (suc n) (suc (suc n)) (omega arith) b.behind.passed
-          (events_of_first (region_run m) plan.region (begun_count (region_run m) plan.region)) ran.made.configs ran.made.piece (λ r h. ran.made.others r (other r h));
+          (events_of_first (region_run m) plan.region (begun_count (region_run m) plan.region)) ran.made.configs ran.made.piece
+          (λ r h. ran.made.others r (other r h));
       left = ap regions_left ran.ends.left ∙ left_behind;
       between = ran.ends.between;
       sound = ran.made.sound;

@@ -10,11 +10,11 @@ use Rattle.dp_meaning.specs.declared.ends.Part.TheVariants as part
 use Rattle.dp_meaning.specs.MachineState.{part_from, part_of, is_any_region, from_region}
 use Rattle.dp_commit.proofs.Parts.{head_part}
 use Rattle.dp_tree.specs.Step.{region_number}
-use Rattle.dp_run.specs.Regions.{number_of, regions_left}
+use Rattle.dp_run.specs.Regions.{number_of_region, regions_left}
 pub use Rattle.dp_meaning.proofs.WatchedLemmas.{part_finished as nothing_left}
 pub use Rattle.dp_meaning.proofs.NextLemmas.{on_region}
 
-pub left_cons : (s : Stmt) (rest : List Stmt) (o : Option ℕ) → number_of s ≡ o → regions_left (s ∷ rest) ≡ cons_option o (regions_left rest)
+pub left_cons : (s : Stmt) (rest : List Stmt) (o : Option ℕ) → number_of_region s ≡ o → regions_left (s ∷ rest) ≡ cons_option o (regions_left rest)
 left_cons s rest o e = ap (λ (x : Option ℕ). cons_option x (regions_left rest)) e
 
 unmarked : (h : Stmt-F Stmt) → is_any_region h ≡ false → region_number h ≡ None
@@ -26,7 +26,8 @@ pub left_from_region : (xs : List Stmt) → regions_left (from_region xs) ≡ re
 left_from_region [] = refl
 left_from_region (s ∷ rest) = by (is_any_region (out-Stmt s)) refl (left_from_region rest)
   where
-    by : (b : Bool) → is_any_region (out-Stmt s) ≡ b → regions_left (from_region rest) ≡ regions_left rest → regions_left (if b then s ∷ rest else from_region rest) ≡ regions_left (s ∷ rest)
+    by : (b : Bool) → is_any_region (out-Stmt s) ≡ b → regions_left (from_region rest) ≡ regions_left rest →
+        regions_left (if b then s ∷ rest else from_region rest) ≡ regions_left (s ∷ rest)
     by true e go = refl
     by false e go = go ∙ sym (left_cons s rest None (unmarked (out-Stmt s) e))
 

@@ -1,5 +1,6 @@
 -- What is reported of a region's own run is what is reported of it in the whole run.
-use Rattle.std.proofs.Common.{◌≡◌, refl, sym, ap, subst, ◌∙◌, ℕ, suc, ◌+◌, ◌-◌, ◌<◌, ◌≤◌, Bool, true, false, if◌then◌else◌, cond, List, [], ◌∷◌, ℤ, length, map, take, count_by, nat_lt, Some, slice_get, arith, rules}
+use Rattle.std.proofs.Common.{◌≡◌, refl, sym, ap, subst, ◌∙◌, ℕ, suc, ◌+◌, ◌-◌, ◌<◌, ◌≤◌, Bool, true, false, if◌then◌else◌, cond, List, [], ◌∷◌, ℤ, length, map}
+use Rattle.std.proofs.Common.{take, count_by, nat_lt, Some, slice_get, arith, rules}
 use Rattle.std.proofs.lemmas.List.Sums.{sum_by-cons, count_by-le-length, length-filter}
 use Rattle.dp_base.specs.declared.Cause.{Cause as ReportedCause}
 use Rattle.dp_tree.specs.declared.Program.{Program}
@@ -24,7 +25,8 @@ use Rattle.dp_theorem.proofs.Central.{fuel_is}
 use Rattle.dp_commit.proofs.Parts.{run_begins}
 use Rattle.dp_tree.proofs.NumberLists.{length-numbers_from}
 
-module _ (p : Program) (plan : Plan) (input : List ℤ) (fuel : ℕ) (run : Run) (n : ℕ) (m : MachineState) (number : plan.region ≡ suc n) (b : Between p input fuel run n m) (here : part_of m.config.to_do ≡ part.Region (suc n)) where
+module _ (p : Program) (plan : Plan) (input : List ℤ) (fuel : ℕ) (run : Run) (n : ℕ) (m : MachineState) (number : plan.region ≡ suc n)
+    (b : Between p input fuel run n m) (here : part_of m.config.to_do ≡ part.Region (suc n)) where
   abbrev start_is : RunsFrom p input fuel run
   start_is = b.behind.begins
 
@@ -38,7 +40,8 @@ module _ (p : Program) (plan : Plan) (input : List ℤ) (fuel : ℕ) (run : Run)
       let more = places (stands_at_head (suc n)) 1 begins.0 in
       let rest_starts : starts (rest_of_run m) (suc n) ≡ 0 ∷ more =
       ap (places (stands_at_head (suc n)) 0) begins.1 ∙ ap (λ (t : Bool). if t then 0 ∷ more else more) (on_region (suc n) m.config here) in
-      ap (λ (r : ℕ). start run r 0) number ∙ ap (λ (ks : List ℕ). slice_get ks 0) (b.behind.passed.ahead (suc n) (omega arith) ∙ ap (map (beyond made)) rest_starts)
+      ap (λ (r : ℕ). start run r 0) number ∙ ap (λ (ks : List ℕ). slice_get ks 0) (b.behind.passed.ahead (suc n) (omega arith)
+      ∙ ap (map (beyond made)) rest_starts)
 
   left_is : start_is.steps - (made + 0) ≡ fuel_left m
   left_is =
@@ -66,25 +69,35 @@ module _ (p : Program) (plan : Plan) (input : List ℤ) (fuel : ℕ) (run : Run)
   report_own =
       ap (λ (k : ℕ). report_of plan.region k (recovered p plan run) (λ i. reported (cause p plan run i))) same.begun_in_all
       ∙ ap (λ (ks : List ℕ). report_of plan.region (begun_count own plan.region) ks (λ i. reported (cause p plan run i))) same.recovered_list
-      ∙ ap (λ (cs : List ReportedCause). record { region = plan.region; iterations = begun_count own plan.region; recovered_count = length (recovered p plan own); recovered = take 1000 (recovered p plan own); causes = cs })
+      ∙ ap (λ (cs : List ReportedCause). record {
+        region = plan.region;
+        iterations = begun_count own plan.region;
+        recovered_count = length (recovered p plan
+            own);
+        recovered = take 1000 (recovered p plan own);
+        causes = cs;
+      })
       (map_same (λ i. reported (cause p plan run i)) (λ i. reported (cause p plan own i)) (λ i. ap reported (same.cause i)) (take 1000 (recovered p plan own)))
 
   pub report_is : region_report p plan (region_run m) ≡ region_report p plan run
   report_is = sym (report_own ∙ ap (region_report p plan) own_is)
 
 pub few_recovered : (p : Program) (plan : Plan) (run : Run) → length (recovered p plan run) ≤ begun_count run plan.region
-few_recovered p plan r = let ns : List ℕ = numbers_from 0 (begun_count r plan.region) in omega (arith, length-filter (is_recovered p plan r) ns, count_by-le-length (is_recovered p plan r) ns, length-numbers_from 0 (begun_count r plan.region))
+few_recovered p plan r = let ns : List ℕ = numbers_from 0 (begun_count r plan.region) in
+    omega (arith, length-filter (is_recovered p plan r) ns, count_by-le-length (is_recovered p plan r) ns, length-numbers_from 0 (begun_count r plan.region))
 
 -- Iterations are begun at different steps within the fuel, so there are no more of them than steps.
 places_few : {X : Type 0} (test : X → Bool) (k n : ℕ) (xs : List X) → count_by (λ j. nat_lt j n) (places test k xs) ≤ n - k
 places_few test k n [] = omega arith
 places_few test k n (x ∷ xs) = by (test x) (places_few test (suc k) n xs)
   where
-    one : (b : Bool) → nat_lt k n ≡ b → count_by (λ j. nat_lt j n) (places test (suc k) xs) ≤ n - suc k → cond b 1 0 + count_by (λ j. nat_lt j n) (places test (suc k) xs) ≤ n - k
+    one : (b : Bool) → nat_lt k n ≡ b → count_by (λ j. nat_lt j n) (places test (suc k) xs) ≤ n - suc k →
+        cond b 1 0 + count_by (λ j. nat_lt j n) (places test (suc k) xs) ≤ n - k
     one true e h = let less : k < n = search (rules, e) in omega (arith, h, less)
     one false e h = omega (arith, h)
 
-    by : (t : Bool) → count_by (λ j. nat_lt j n) (places test (suc k) xs) ≤ n - suc k → count_by (λ j. nat_lt j n) (if t then k ∷ places test (suc k) xs else places test (suc k) xs) ≤ n - k
+    by : (t : Bool) → count_by (λ j. nat_lt j n) (places test (suc k) xs) ≤ n - suc k →
+        count_by (λ j. nat_lt j n) (if t then k ∷ places test (suc k) xs else places test (suc k) xs) ≤ n - k
     by true h = let c = sum_by-cons (λ j. cond (nat_lt j n) 1 0) k (places test (suc k) xs) in let o = one (nat_lt k n) refl h in omega (arith, c, o)
     by false h = omega (arith, h)
 

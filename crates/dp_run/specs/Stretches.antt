@@ -23,7 +23,7 @@ use Rattle.dp_run.specs.RunText.{told_reports, committed_in_all}
 use Rattle.dp_run.specs.Regions.{regions_left}
 
 -- The run begins with some steps and goes on as the rest does; no region from number k on was reached in them.
-pub record Passed (run rest : Run) (k : ℕ) : Type 0 where
+pub record HasPassed (run rest : Run) (k : ℕ) : Type 0 where
   pub events : List Event
   pub configs : List Config
   pub piece : Continues run events configs rest
@@ -43,7 +43,7 @@ pub record Behind (p : Program) (input : List ℤ) (fuel : ℕ) (run : Run) (n :
   pub program_is : m.program ≡ p
   pub input_is : m.input ≡ input
   pub fuel_is : m.fuel ≡ fuel
-  pub passed : Passed run (rest_of_run m) (suc n)
+  pub passed : HasPassed run (rest_of_run m) (suc n)
   pub left : regions_left m.config.to_do ≡ numbers_from (suc n) (length p.regions - n)
   pub between : m.current ≡ None
   pub sound : m.spoiled ≡ false
@@ -72,9 +72,11 @@ to_come m = prints (rest_of_run m).trace
 -- Prints wait, and others are to come. Of none was written that comes behind a start of an iteration of a region from number k on:
 -- a front of the text of those before it was.
 pub record FrontBefore (k : ℕ) (waiting : List ℤ) (m : MachineState) (told tells : Option (List ℕ)) : Type 0 where
-  pub front : (r i j : ℕ) → k ≤ r → start (rest_of_run m) r i ≡ Some j → WritesFront (prints_bytes (waiting ++ prints (take j (rest_of_run m).trace))) told tells
+  pub front : (r i j : ℕ) → k ≤ r → start (rest_of_run m) r i ≡ Some j →
+      WritesFront (prints_bytes (waiting ++ prints (take j (rest_of_run m).trace))) told tells
 
--- The first n of these plans' regions have these reports, with causes where `why` asks for them, behind those of before, and so many of their iterations were counted.
+-- The first n of these plans' regions have these reports, with causes where `why` asks for them, behind those of before, and so many of their iterations were
+-- counted.
 pub record Counted (why : Bool) (p : Program) (plans : List Plan) (run : Run) (n : ℕ) (told reports : List RegionReport) (before now : ℕ) : Type 0 where
   pub reports_are : reports ≡ told ++ told_reports why p (take n plans) run
   pub tally_is : now ≡ before + committed_in_all p (take n plans) run
@@ -85,7 +87,8 @@ pub record Ahead (p : Program) (plans : List Plan) (input : List ℤ) (fuel : �
   pub behind : Behind p input fuel run n m
 
 -- The run went on by the first of these plans' regions, which have their reports: by all of them, or to its end.
-pub record Went (why : Bool) (p : Program) (plans : List Plan) (input : List ℤ) (fuel : ℕ) (run : Run) (n : ℕ) (m : MachineState) (end : Option End) (told reports : List RegionReport) (before now : ℕ) : Type 0 where
+pub record Went (why : Bool) (p : Program) (plans : List Plan) (input : List ℤ) (fuel : ℕ) (run : Run) (n : ℕ) (m : MachineState) (end : Option End)
+    (told reports : List RegionReport) (before now : ℕ) : Type 0 where
   pub count : ℕ
   pub within : count ≤ length plans
   pub all : end ≡ None → count ≡ length plans

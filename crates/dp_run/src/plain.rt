@@ -6,7 +6,7 @@ ghost use Rattle.dp_meaning.specs.declared.ends.Part.TheVariants.{Plain};
 ghost use Rattle.dp_meaning.specs.MachineState.{next_part, rest_of_run};
 ghost use Rattle.dp_edge.specs.Writing.{FaultsAfter};
 ghost use Rattle.dp_crew.specs.Output.{Streams};
-ghost use Rattle.dp_run.specs.Stretches.{Behind, FrontBefore, Leads, Passed, to_come};
+ghost use Rattle.dp_run.specs.Stretches.{Behind, FrontBefore, Leads, HasPassed, to_come};
 ghost use Rattle.dp_run.specs.steps.Calls.{PartCall, PartSteps};
 
 use dp_base::{End, NoMemory, Row};
@@ -31,7 +31,8 @@ pub fn run_plain<'p, N: NativeCode, K: Sink, W: Watch>(
     requires sink { K.faults sink.old < 2 ^ 64 - 1 }
     ensures faults { FaultsAfter result (K.faults sink.old) (K.faults sink.new) }
     ensures tally { tally.new ≡ tally.old }
-    ensures ok { IfOk result (λ end. (p : Tree) (input : List ℤ) (fuel : ℕ) (run : Run) (n : ℕ) → Behind p input fuel run n machine.old → Leads p input fuel run n machine.new end) }
+    ensures ok { IfOk result (λ end. (p : Tree) (input : List ℤ) (fuel : ℕ) (run : Run) (n : ℕ) → Behind p input fuel run n machine.old →
+        Leads p input fuel run n machine.new end) }
     ensures plain { OnErr result (next_part machine.old ≡ Plain) }
     ensures streams { Streams result (to_come machine.old) (λ _. to_come machine.new) (K.written sink.old) (K.written sink.new) }
     ensures before { OnErr result (FrontBefore 0 [] machine.old (K.written sink.old) (K.written sink.new)) }
@@ -58,10 +59,11 @@ fn finish_plain<'p, N: NativeCode, K: Sink, W: Watch>(
     requires part { next_part machine.old ≡ Plain }
     ensures faults { FaultsAfter result (K.faults sink.old) (K.faults sink.new) }
     ensures tally { tally.new ≡ tally.old }
-    ensures ok { IfOk result (λ end. (p : Tree) (input : List ℤ) (fuel : ℕ) (run : Run) (n : ℕ) → Behind p input fuel run n machine.old → Leads p input fuel run n machine.new end) }
+    ensures ok { IfOk result (λ end. (p : Tree) (input : List ℤ) (fuel : ℕ) (run : Run) (n : ℕ) → Behind p input fuel run n machine.old →
+        Leads p input fuel run n machine.new end) }
     ensures streams { Streams result (waiting.old ++ to_come machine.old) (λ _. waiting.new ++ to_come machine.new) (K.written sink.old) (K.written sink.new) }
     ensures before { OnErr result (FrontBefore 0 waiting.old machine.old (K.written sink.old) (K.written sink.new)) }
-    ensures passes { OnOk result (Passed (rest_of_run machine.old) (rest_of_run machine.new) 0) }
+    ensures passes { OnOk result (HasPassed (rest_of_run machine.old) (rest_of_run machine.new) 0) }
 {
     'calls: loop {
         match go_on(alloc, native, machine, waiting, sink, tally)? {

@@ -51,9 +51,12 @@ pub fn run_program<R: Threads + Wait + Clock + Sync, N: NativeCode, K: Sink, G: 
     requires room { tally.old < 2 ^ 63 }
     ensures faults { FaultsAfter result (K.faults sink.old) (K.faults sink.new) }
     ensures ok { let run = source_run prepared.now.program input.now options.fuel in
-        IfOk result (λ end. (end ≡ run.end) × (K.written sink.new ≡ appended (trace_text prepared.now.program prepared.now.plans run options.why) (K.written sink.old))) }
-    ensures err { OnErr result (WritesFront (trace_text prepared.now.program prepared.now.plans (source_run prepared.now.program input.now options.fuel) options.why) (K.written sink.old) (K.written sink.new)) }
-    ensures tally { OnOk result (tally.new ≡ tally.old + committed_in_all prepared.now.program prepared.now.plans (source_run prepared.now.program input.now options.fuel)) }
+        IfOk result (λ end. (end ≡ run.end) × (K.written sink.new ≡ appended (trace_text prepared.now.program prepared.now.plans run options.why)
+        (K.written sink.old))) }
+    ensures err { OnErr result (WritesFront (trace_text prepared.now.program prepared.now.plans (source_run prepared.now.program input.now options.fuel)
+        options.why) (K.written sink.old) (K.written sink.new)) }
+    ensures tally { OnOk result (tally.new ≡ tally.old + committed_in_all prepared.now.program prepared.now.plans
+        (source_run prepared.now.program input.now options.fuel)) }
 {
     let RunOptions { fuel, size, why } = options;
     let program = prepared.program();

@@ -45,14 +45,17 @@ pub fn run_stretch<'p, R: Threads + Wait + Clock + Sync, N: NativeCode, K: Sink,
     requires sink { K.faults sink.old < 2 ^ 64 - 1 }
     requires room { tally.old + (machine.fuel - machine.steps) < 2 ^ 64 }
     ensures faults { FaultsAfter result (K.faults sink.old) (K.faults sink.new) }
-    ensures ok { IfOk result (λ ran. (run : Run) (n : ℕ) → region.now.plan.region ≡ suc n → Between region.now.program input.now machine.entry.fuel run n machine.entry →
+    ensures ok { IfOk result (λ ran. (run : Run) (n : ℕ) → region.now.plan.region ≡ suc n →
+        Between region.now.program input.now machine.entry.fuel run n machine.entry →
         Leads region.now.program input.now machine.entry.fuel run (suc n) ran.0 ran.1) }
-    ensures report { OnOk result ((run : Run) (n : ℕ) → region.now.plan.region ≡ suc n → Between region.now.program input.now machine.entry.fuel run n machine.entry →
+    ensures report { OnOk result ((run : Run) (n : ℕ) → region.now.plan.region ≡ suc n →
+        Between region.now.program input.now machine.entry.fuel run n machine.entry →
         reports.new ≡ reports.old ++ told_when why (region_report region.now.program region.now.plan run) ∷ []) }
     ensures written { IfOk result (λ ran. Emits (to_come machine.entry) (to_come ran.0) (K.written sink.old) (K.written sink.new)) }
     ensures front { OnErr result (WritesFront (prints_bytes (to_come machine.entry)) (K.written sink.old) (K.written sink.new)) }
     ensures before { OnErr result (FrontBefore (suc region.now.plan.region) [] machine.entry (K.written sink.old) (K.written sink.new)) }
-    ensures tally { OnOk result ((run : Run) (n : ℕ) → region.now.plan.region ≡ suc n → Between region.now.program input.now machine.entry.fuel run n machine.entry →
+    ensures tally { OnOk result ((run : Run) (n : ℕ) → region.now.plan.region ≡ suc n →
+        Between region.now.program input.now machine.entry.fuel run n machine.entry →
         tally.new ≡ tally.old + committed_count region.now.program region.now.plan run) }
 {
     let mut told = nothing_counted(alloc, region.number());
@@ -74,7 +77,8 @@ fn finish_stretch<'p, N: NativeCode, K: Sink, W: Watch>(
 ) -> Result<(Machine<'p>, Option<End>), WriteFail>
     requires sink { K.faults sink.old < 2 ^ 64 - 1 }
     ensures faults { FaultsAfter result (K.faults sink.old) (K.faults sink.new) }
-    ensures ok { IfOk result (λ ran. (p : Tree) (input : List ℤ) (fuel : ℕ) (run : Run) (n : ℕ) → AfterRegion p input fuel run n machine.entry end → Leads p input fuel run n ran.0 ran.1) }
+    ensures ok { IfOk result (λ ran. (p : Tree) (input : List ℤ) (fuel : ℕ) (run : Run) (n : ℕ) → AfterRegion p input fuel run n machine.entry end →
+        Leads p input fuel run n ran.0 ran.1) }
     ensures tally { tally.new ≡ tally.old }
     ensures closed { OnErr result (end ≡ Closed) }
     ensures written { IfOk result (λ ran. Emits (to_come machine.entry) (to_come ran.0) (K.written sink.old) (K.written sink.new)) }

@@ -1,5 +1,7 @@
 -- The one-stage form of a valid plan is a valid plan.
-use Rattle.dp_semantics.proofs.Names.{◌≡◌, refl, sym, ap, ◌∙◌, subst, inl, inr, ℕ, zero, suc, ◌≤◌, ◌==◌, Bool, true, false, not, ◌&&◌, if◌then◌else◌, List, [], ◌∷◌, map, filter, length, nat_lt, append-nil, arith, eq-eqb, cases_Bool, ltb-false, le-ltb, None, Program, Plan, stage_of, first_site, is_checked}
+use Rattle.dp_semantics.proofs.Names.{◌≡◌, refl, sym, ap, ◌∙◌, subst, inl, inr, ℕ, zero, suc, ◌≤◌, ◌==◌, Bool, true, false, not, ◌&&◌, if◌then◌else◌, List, []}
+use Rattle.dp_semantics.proofs.Names.{◌∷◌, map, filter, length, nat_lt, append-nil, arith, eq-eqb, cases_Bool, ltb-false, le-ltb, None, Program, Plan, stage_of}
+use Rattle.dp_semantics.proofs.Names.{first_site, is_checked}
 use Rattle.std.proofs.Common.{is_none}
 use Rattle.std.proofs.lemmas.Bool.{ltb-true, or_left, and_left, and_right}
 use Rattle.std.proofs.lemmas.List.{length-map}
@@ -12,7 +14,7 @@ use Rattle.dp_plan.specs.Enclosing.{region_ifs, region_inner_whiles}
 use Rattle.dp_plan.specs.GivenPlans.{IsPlan}
 use Rattle.dp_plan.specs.Rules.{assumed_site, comes_late, first_in, is_late_unassumed, occurs_again}
 use Rattle.dp_plan.specs.Valid.{first_broken}
-use Rattle.dp_plan.specs.Written.{has, listed, region_sites, written_of, written_stage}
+use Rattle.dp_plan.specs.Written.{has, listed_sites, region_sites, written_of, written_stage}
 use Rattle.dp_plan.specs.Each.{AscendAbove}
 use Rattle.dp_plan.proofs.Ascent.{above-ascends}
 use Rattle.dp_plan.proofs.EachLemmas.{every}
@@ -76,9 +78,10 @@ module _ (p : Program) (inlined : IsInlined p) (plan : Plan) (is : IsPlan p plan
   up = let text = in_text p inlined plan is in above-ascends 0 (first_site p plan) sites text.order (omega (arith, text.low)) text.high
 
   line : filter (λ site. stage_of p (one_stage plan) site == 1) sites ≡ sites
-  line = all_kept (λ site. stage_of p (one_stage plan) site == 1) sites (each_map (λ n. has n sites ≡ true) (λ n. (stage_of p (one_stage plan) n == 1) ≡ true) (λ n e. eq-eqb _ 1 (first_stage p inlined plan is n e)) sites (each_has sites))
+  line = all_kept (λ site. stage_of p (one_stage plan) site == 1) sites (each_map (λ n. has n sites ≡ true) (λ n. (stage_of p (one_stage plan) n == 1) ≡ true)
+      (λ n e. eq-eqb _ 1 (first_stage p inlined plan is n e)) sites (each_has sites))
 
-  lists : listed one ≡ sites
+  lists : listed_sites one ≡ sites
   lists = append-nil (filter (λ site. stage_of p (one_stage plan) site == 1) sites) ∙ line
 
   stage_is : (x : ℕ) → written_stage one x ≡ (if has x sites then 1 else 0)
@@ -92,8 +95,8 @@ module _ (p : Program) (inlined : IsInlined p) (plan : Plan) (is : IsPlan p plan
 
   -- a site that has a stage under the plan is of the region
   of_region : (x : ℕ) → 1 ≤ written_stage w x → has x sites ≡ true
-  of_region x low = elim (cases_Bool (has x (listed w))) [
-    | inl t ↦ has_each (λ n. has n sites ≡ true) (listed w) x (none_foreign p w whole) t
+  of_region x low = elim (cases_Bool (has x (listed_sites w))) [
+    | inl t ↦ has_each (λ n. has n sites ≡ true) (listed_sites w) x (none_foreign p w whole) t
     | inr f ↦ absurd (omega (arith, low, stage_unlisted 1 w.stages x f))
   ]
 
@@ -101,19 +104,28 @@ module _ (p : Program) (inlined : IsInlined p) (plan : Plan) (is : IsPlan p plan
   in_time : (e : Enclosing) → comes_late w e ≡ false → comes_late one e ≡ false
   in_time e early = elim (cases_Bool (has e.site sites)) [
     | inl t ↦
-        let low = (stage_listed 1 w.stages e.site (has_each (λ n. has n (listed w) ≡ true) sites e.site (all_listed p w whole) t)).0 in
+        let low = (stage_listed 1 w.stages e.site (has_each (λ n. has n (listed_sites w) ≡ true) sites e.site (all_listed p w whole) t)).0 in
         none_make (λ site. nat_lt (written_stage one site) (written_stage one e.site)) e.inside
-        (each_map (λ site. nat_lt (written_stage w site) (written_stage w e.site) ≡ false) (λ site. nat_lt (written_stage one site) (written_stage one e.site) ≡ false)
-        (λ site here. le-ltb (written_stage one site) (written_stage one e.site) (omega (arith, first_there e.site t, first_there site (of_region site (omega (arith, low, ltb-false (written_stage w site) (written_stage w e.site) here))))))
+        (each_map (λ site. nat_lt (written_stage w site) (written_stage w e.site) ≡ false)
+        (λ site. nat_lt (written_stage one site) (written_stage one e.site) ≡ false)
+        (λ site here. le-ltb (written_stage one site) (written_stage one e.site)
+        (omega (
+          arith,
+          first_there e.site t,
+          first_there site (of_region site
+              (omega (arith, low, ltb-false (written_stage w site) (written_stage w e.site) here))),
+        )))
         e.inside (none_of (λ site. nat_lt (written_stage w site) (written_stage w e.site)) e.inside early))
     | inr f ↦ none_make (λ site. nat_lt (written_stage one site) (written_stage one e.site)) e.inside
-        (every (λ site. nat_lt (written_stage one site) (written_stage one e.site) ≡ false) (λ site. le-ltb (written_stage one site) (written_stage one e.site) (omega (arith, not_there e.site f))) e.inside)
+        (every (λ site. nat_lt (written_stage one site) (written_stage one e.site) ≡ false) (λ site. le-ltb (written_stage one site) (written_stage one e.site)
+        (omega (arith, not_there e.site f))) e.inside)
   ]
 
   assumed_in_time : (e : Enclosing) → is_late_unassumed w e ≡ false → is_late_unassumed one e ≡ false
   assumed_in_time e early = elim (cases_Bool (has e.site (map assumed_site plan.assume))) [
     | inl t ↦ and_right (comes_late one e) (not (has e.site (map assumed_site plan.assume))) (ap not t)
-    | inr f ↦ and_left (comes_late one e) (not (has e.site (map assumed_site plan.assume))) (in_time e (unassumed (comes_late w e) (has e.site (map assumed_site plan.assume)) early f))
+    | inr f ↦ and_left (comes_late one e) (not (has e.site (map assumed_site plan.assume)))
+        (in_time e (unassumed (comes_late w e) (has e.site (map assumed_site plan.assume)) early f))
   ]
     where
       unassumed : (a b : Bool) → (a && not b) ≡ false → b ≡ false → a ≡ false
@@ -124,13 +136,16 @@ module _ (p : Program) (inlined : IsInlined p) (plan : Plan) (is : IsPlan p plan
   met : Meets p one
   met = record {
     all = subst (λ (l : List ℕ). Each (λ site. has site l ≡ true) sites) (sym lists) (each_has sites);
-    once = subst (λ (l : List ℕ). Each (λ site. occurs_again l site ≡ false) l) (sym lists) (each_map (λ n. has n sites ≡ true) (λ n. occurs_again sites n ≡ false) (λ n e. not_again n sites (ascending_once 0 n sites up)) sites (each_has sites));
+    once = subst (λ (l : List ℕ). Each (λ site. occurs_again l site ≡ false) l) (sym lists)
+        (each_map (λ n. has n sites ≡ true) (λ n. occurs_again sites n ≡ false) (λ n e. not_again n sites (ascending_once 0 n sites up))
+        sites (each_has sites));
     own = subst (λ (l : List ℕ). Each (λ site. has site sites ≡ true) l) (sym lists) (each_has sites);
     first = eq-eqb _ 1 (first_there (first_in sites) (has_first sites (omega (arith, some, is.staged))));
     sequential = refl;
     apart = refl;
     whiles = each_map (λ e. comes_late w e ≡ false) (λ e. comes_late one e ≡ false) in_time (region_inner_whiles p plan.region) (whiles_in_time p w whole);
-    ifs = each_map (λ e. is_late_unassumed w e ≡ false) (λ e. is_late_unassumed one e ≡ false) assumed_in_time (region_ifs p plan.region) (ifs_in_time p w whole);
+    ifs = each_map (λ e. is_late_unassumed w e ≡ false) (λ e. is_late_unassumed one e ≡ false) assumed_in_time (region_ifs p plan.region)
+        (ifs_in_time p w whole);
     assumed = rightly_assumed p w whole;
   }
 
@@ -138,7 +153,8 @@ module _ (p : Program) (inlined : IsInlined p) (plan : Plan) (is : IsPlan p plan
   long = length-map plan.stage_of (λ (_ : ℕ). let n : ℕ = 1 in n)
 
   table_long : length plan.checked_at ≡ length (numbers_from (first_site p plan) (length (one_stage plan).stage_of))
-  table_long = ap length is.table ∙ length-map (numbers_from (first_site p plan) (length plan.stage_of)) (is_checked p plan) ∙ length-numbers_from (first_site p plan) (length plan.stage_of)
+  table_long = ap length is.table ∙ length-map (numbers_from (first_site p plan) (length plan.stage_of)) (is_checked p plan)
+      ∙ length-numbers_from (first_site p plan) (length plan.stage_of)
       ∙ sym long ∙ sym (length-numbers_from (first_site p plan) (length (one_stage plan).stage_of))
 
   pub one_stage_is_plan : IsPlan p (one_stage plan)
@@ -151,5 +167,6 @@ module _ (p : Program) (inlined : IsInlined p) (plan : Plan) (is : IsPlan p plan
     staged = long ∙ is.staged;
     valid = ap is_none (unbroken p one met);
     assume = is.assume;
-    table = none_in (is_checked p (one_stage plan)) (numbers_from (first_site p plan) (length (one_stage plan).stage_of)) (unchecked p inlined plan is) plan.checked_at table_long;
+    table = none_in (is_checked p (one_stage plan)) (numbers_from (first_site p plan) (length (one_stage plan).stage_of)) (unchecked p inlined plan is)
+        plan.checked_at table_long;
   }

@@ -2,7 +2,8 @@
 use Rattle.std.proofs.Common.{◌≡◌, sym, ap, ◌∙◌, ℕ, suc, ◌+◌, ◌<◌, List, [], ◌∷◌, ◌++◌, map, length, drop, drop-cons, append_assoc, arith}
 
 -- one item more
-pub one_more : {A B : Type 0} (b : B) (d : A) (all : List A) (i : ℕ) (made after : List B) → i < length all → after ≡ made ++ b ∷ [] → made ++ map (λ (_ : A). b) (drop i all) ≡ map (λ (_ : A). b) all
+pub one_more : {A B : Type 0} (b : B) (d : A) (all : List A) (i : ℕ) (made after : List B) → i < length all → after ≡ made ++ b ∷ [] →
+    made ++ map (λ (_ : A). b) (drop i all) ≡ map (λ (_ : A). b) all
     → after ++ map (λ (_ : A). b) (drop (i + 1) all) ≡ map (λ (_ : A). b) all
 one_more {A} {B} b d all i made after lt pushed so_far =
     let next : i + 1 ≡ suc i = omega arith in

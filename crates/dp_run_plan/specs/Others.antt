@@ -32,9 +32,9 @@ pub record AreOthers (p : Program) (plans : List Plan) (o : OtherPlans) : Type 0
   pub wholes : Each (IsPlan p) o.wholes
 
 -- the entry, if there is one
-abbrev pub entry_of : Option (Option Plan) → Option Plan
-entry_of None = None
-entry_of (Some other) = other
+abbrev pub plan_entry : Option (Option Plan) → Option Plan
+plan_entry None = None
+plan_entry (Some other) = other
 
 -- the other plan, if there is one, is given for the program, and the region may be run under it
 abbrev pub MayRunAs : Program → Plan → Option Plan → Type 0

@@ -25,9 +25,11 @@ pub record RunsFor (p : Program) (plan other : Plan) : Type 0 where
 abbrev pub one_stage : Plan → Plan
 one_stage plan = record plan { stages = Seq ∷ []; stage_of = map (λ _. 1) plan.stage_of; checked_at = map (λ _. false) plan.checked_at }
 
--- An iteration that is clean under the other plan, that doesn't close the region and has no more steps than a stage of the plan may have words, is clean under the plan.
+-- An iteration that is clean under the other plan, that doesn't close the region and has no more steps than a stage of the plan may have words, is clean under
+-- the plan.
 abbrev pub CleanAlike : Program → Plan → Plan → Type 0
-CleanAlike p plan other = (run : Run) (e f i : ℕ) → is_clean p other run f i ≡ true → is_closing run plan.region i ≡ false → length (iteration run plan.region i) ≤ plan.words →
+CleanAlike p plan other =
+    (run : Run) (e f i : ℕ) → is_clean p other run f i ≡ true → is_closing run plan.region i ≡ false → length (iteration run plan.region i) ≤ plan.words →
     is_clean p plan run e i ≡ true
 
 -- It makes no difference to an iteration where its epoch began.

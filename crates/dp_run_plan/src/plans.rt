@@ -1,7 +1,7 @@
 //! The plans under which the regions of a program are run in place of their own.
 ghost use Rattle.std.specs.Prelude.{◌≡◌, IfOk, slice_get};
 ghost use Rattle.std.specs.Option.{option_copied};
-ghost use Rattle.dp_run_plan.specs.Others.{entry_of, other_of, others_of};
+ghost use Rattle.dp_run_plan.specs.Others.{plan_entry, other_of, others_of};
 
 use crate::making::{hides_nothing, one_stage};
 use dp_base::{NoMemory, Row};
@@ -65,7 +65,7 @@ impl RunPlans {
 
     /// The other plan at a place, if there is one.
     pub(crate) fn at(&self, place: usize) -> Option<&Plan>
-        ensures { option_copied result ≡ entry_of (slice_get self.now.others place) }
+        ensures { option_copied result ≡ plan_entry (slice_get self.now.others place) }
     {
         match self.others.get(place) {
             Some(other) => other.as_ref(),

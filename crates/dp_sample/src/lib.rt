@@ -79,7 +79,8 @@ impl Code<2> for Part1 {
         requires { state.at ≡ 0 }
         ensures less { result.fuel ≤ state.fuel }
         ensures small { result.at < 2 ^ 32 }
-        ensures runs { Runs ⟦<Part1Form as Code<2>>⟧.is_of input.now state.fuel state.registers memory.old out.old result.at result.fuel result.registers memory.new out.new }
+        ensures runs { Runs ⟦<Part1Form as Code<2>>⟧.is_of input.now state.fuel state.registers memory.old out.old result.at result.fuel result.registers
+            memory.new out.new }
     {
         <Part1Form as Code<2>>::run::<W>(input, memory, out, state)
     }
@@ -92,7 +93,9 @@ impl Code<2> for Part1 {
         state: &State<2>,
     ) -> Option<State<2>>
         requires { state.now.at ≡ 0 }
-        ensures { MatchOption result ((memory.new ≡ memory.old) × (out.new ≡ out.old)) (λ to. (to.at < 2 ^ 32) × Enters ⟦<Part1Form as Code<2>>⟧.is_of site input.now state.now.fuel state.now.registers memory.old out.old to.at to.fuel to.registers memory.new out.new) }
+        ensures { MatchOption result ((memory.new ≡ memory.old) × (out.new ≡ out.old)) (λ to. (to.at < 2 ^ 32)
+            × Enters ⟦<Part1Form as Code<2>>⟧.is_of site input.now state.now.fuel state.now.registers memory.old out.old to.at to.fuel to.registers
+            memory.new out.new) }
     {
         <Part1Form as Code<2>>::enter(site, input, memory, out, state)
     }

@@ -19,7 +19,8 @@ single_case byte digits true e h =
     let none : [] ≡ digits = cc h in let colon : byte ≡ 58 = search (rules, tests) in ap (λ b. b ∷ []) colon ∙ ap (λ d. d ++ 58 ∷ []) none
 single_case byte digits false e h = absurd (cc h)
 
-onto_case : (byte : ℕ) (word digits : List ℕ) (o : Option (List ℕ)) → before_colon word ≡ o → onto_text byte o ≡ Some digits → ((d : List ℕ) → before_colon word ≡ Some d → word ≡ d ++ 58 ∷ []) → byte ∷ word ≡ digits ++ 58 ∷ []
+onto_case : (byte : ℕ) (word digits : List ℕ) (o : Option (List ℕ)) → before_colon word ≡ o → onto_text byte o ≡ Some digits →
+    ((d : List ℕ) → before_colon word ≡ Some d → word ≡ d ++ 58 ∷ []) → byte ∷ word ≡ digits ++ 58 ∷ []
 onto_case byte word digits None e h more = absurd (cc h)
 onto_case byte word digits (Some d) e h more = let is : byte ∷ d ≡ digits = cc h in ap (λ l. byte ∷ l) (more d e) ∙ ap (λ x. x ++ 58 ∷ []) is
 

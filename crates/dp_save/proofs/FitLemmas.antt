@@ -1,5 +1,6 @@
 -- Tests of a place, of a memory and of a report, and what they say.
-use Rattle.std.proofs.Common.{◌≡◌, ℕ, zero, suc, ◌+◌, ◌-◌, ◌<◌, ◌≤◌, ◌==◌, Bool, true, false, not, ◌&&◌, ◌||◌, nat_le, nat_lt, List, [], ◌∷◌, ◌++◌, map, length, ℤ, pos, negsuc, get_or, slice_get, Option, Some, None, refl, sym, ap, subst, ◌∙◌, rules, arith, tests, eqb-true, length-append}
+use Rattle.std.proofs.Common.{◌≡◌, ℕ, zero, suc, ◌+◌, ◌-◌, ◌<◌, ◌≤◌, ◌==◌, Bool, true, false, not, ◌&&◌, ◌||◌, nat_le, nat_lt, List, [], ◌∷◌, ◌++◌, map, length}
+use Rattle.std.proofs.Common.{ℤ, pos, negsuc, get_or, slice_get, Option, Some, None, refl, sym, ap, subst, ◌∙◌, rules, arith, tests, eqb-true, length-append}
 use Rattle.std.specs.Prelude.{if◌then◌else◌, replicate}
 use Rattle.std.specs.List.{list_all}
 use Rattle.std.proofs.lemmas.Bool.{cases_Bool}
@@ -16,7 +17,7 @@ use Rattle.dp_tree.specs.Trace.{start_cells}
 use Rattle.dp_tree.proofs.NumberLists.{numbers_from-append}
 use Rattle.dp_save.specs.declared.Checkpoint.{Checkpoint}
 use Rattle.dp_save.specs.declared.line.Place.{Place}
-use Rattle.dp_save.specs.Fits.{BodyLocalIsZero, CellsFit, PlaceFits, ReportFits, ReportsFit, StopsHere, is_body_scope, region_in}
+use Rattle.dp_save.specs.Fits.{BodyLocalIsZero, CellsFit, PlaceFits, ReportFits, ReportsFit, StopsHere, is_body_scope, reported_region}
 use Rattle.dp_save.specs.steps.Reading.{cells_fit, is_next, is_zero_at, place_fits, rests, stopped, with_report}
 use Rattle.dp_save.proofs.ValueLemmas.{Wide}
 
@@ -32,14 +33,16 @@ each-lists P (x ∷ xs) ys all more = (all.0, each-lists P xs ys all.1 more)
 
 -- ---- the place
 
-pub place_tested : (p : Program) (place : Place) (cells : List ℤ) (reports : List RegionReport) → PlaceFits p (stopped place cells reports) → place_fits p place ≡ true
+pub place_tested : (p : Program) (place : Place) (cells : List ℤ) (reports : List RegionReport) → PlaceFits p (stopped place cells reports) →
+    place_fits p place ≡ true
 place_tested p place cells reports f =
     let a : nat_lt 0 place.region ≡ true = let lt : 0 < place.region = omega (arith, f.some_region) in search rules in
     let b : nat_le place.region (length p.regions) ≡ true = let le : place.region ≤ length p.regions = f.region_exists in search rules in
     let c : nat_le place.steps place.fuel ≡ true = let le : place.steps ≤ place.fuel = f.steps_within in search rules in
     rw (a, b, c) refl
 
-pub place_sound : (p : Program) (place : Place) (cells : List ℤ) (reports : List RegionReport) → place.region < 4294967296 → place.after ≤ FUEL → place.fuel ≤ FUEL → place_fits p place ≡ true → PlaceFits p (stopped place cells reports)
+pub place_sound : (p : Program) (place : Place) (cells : List ℤ) (reports : List RegionReport) → place.region < 4294967296 → place.after ≤ FUEL →
+    place.fuel ≤ FUEL → place_fits p place ≡ true → PlaceFits p (stopped place cells reports)
 place_sound p place cells reports small after fuel h =
     let a = both (nat_lt 0 place.region) (nat_le place.region (length p.regions) && nat_le place.steps place.fuel) h in
     let b = both (nat_le place.region (length p.regions)) (nat_le place.steps place.fuel) a.second in
@@ -53,7 +56,8 @@ place_sound p place cells reports small after fuel h =
     }
 
 -- of another memory and other reports
-pub same_place : (p : Program) (place : Place) (cells others : List ℤ) (reports more : List RegionReport) → PlaceFits p (stopped place cells reports) → PlaceFits p (stopped place others more)
+pub same_place : (p : Program) (place : Place) (cells others : List ℤ) (reports more : List RegionReport) → PlaceFits p (stopped place cells reports) →
+    PlaceFits p (stopped place others more)
 same_place p place cells others reports more f = record {
   some_region = f.some_region;
   region_exists = f.region_exists;
@@ -85,11 +89,13 @@ zero_read [] k h = refl
 zero_read (z ∷ cells) zero h = ap is_zero h ∙ zero_zero
 zero_read (z ∷ cells) (suc k) h = zero_read cells k h
 
-local_case : (cells : List ℤ) (k : ℕ) (body : Bool) → (if body then is_zero_at (slice_get cells k) else true) ≡ true → body ≡ true → get_or cells k (pos 0) ≡ pos 0
+local_case : (cells : List ℤ) (k : ℕ) (body : Bool) → (if body then is_zero_at (slice_get cells k) else true) ≡ true → body ≡ true →
+    get_or cells k (pos 0) ≡ pos 0
 local_case cells k true h e = reads_zero cells k h
 local_case cells k false h e = absurd (cc e)
 
-local_tested : (cells : List ℤ) (k : ℕ) (body : Bool) → (body ≡ true → get_or cells k (pos 0) ≡ pos 0) → (if body then is_zero_at (slice_get cells k) else true) ≡ true
+local_tested : (cells : List ℤ) (k : ℕ) (body : Bool) → (body ≡ true → get_or cells k (pos 0) ≡ pos 0) →
+    (if body then is_zero_at (slice_get cells k) else true) ≡ true
 local_tested cells k true h = zero_read cells k (h refl)
 local_tested cells k false h = refl
 
@@ -133,7 +139,12 @@ abbrev pub zeros : Program → List ℤ
 zeros p = replicate (length (start_cells p.vars)) (pos 0)
 
 pub zeros_fit : (p : Program) → CellsFit p (zeros p)
-zeros_fit p = record { long = length-replicate (length (start_cells p.vars)) (pos 0); wide = zeros_wide (length (start_cells p.vars)); locals = zeros_rest (length (start_cells p.vars)) p.vars }
+zeros_fit p = record {
+  long = length-replicate (length (start_cells p.vars)) (pos 0);
+  wide = zeros_wide (length
+      (start_cells p.vars));
+  locals = zeros_rest (length (start_cells p.vars)) p.vars;
+}
 
 -- ---- reports
 
@@ -142,13 +153,15 @@ pub record IsNext (c : Checkpoint) (r : RegionReport) : Type 0 where
   pub within : r.region ≤ c.region
   pub here : StopsHere c r
 
-here_case : (same : Bool) (region at iterations after : ℕ) → (region == at) ≡ same → (not same || (iterations == after)) ≡ true → region ≡ at → iterations ≡ after
+here_case : (same : Bool) (region at iterations after : ℕ) → (region == at) ≡ same → (not same || (iterations == after)) ≡ true →
+    region ≡ at → iterations ≡ after
 here_case true region at iterations after e h is = eqb-true iterations after h
 here_case false region at iterations after e h is = let t : (region == at) ≡ true = search (rules, tests) in absurd (cc (sym e ∙ t))
 
 pub next_sound : (c : Checkpoint) (r : RegionReport) → is_next c r ≡ true → IsNext c r
 next_sound c r h =
-    let a = both (nat_lt 0 r.region) ((length c.reports == r.region - 1) && (nat_le r.region c.region && (not (r.region == c.region) || (r.iterations == c.after)))) h in
+    let a = both (nat_lt 0 r.region)
+    ((length c.reports == r.region - 1) && (nat_le r.region c.region && (not (r.region == c.region) || (r.iterations == c.after)))) h in
     let b = both (length c.reports == r.region - 1) (nat_le r.region c.region && (not (r.region == c.region) || (r.iterations == c.after))) a.second in
     let d = both (nat_le r.region c.region) (not (r.region == c.region) || (r.iterations == c.after)) b.second in
     let some : 0 < r.region = let e : nat_lt 0 r.region ≡ true = a.first in search rules in
@@ -158,7 +171,8 @@ next_sound c r h =
       here = here_case (r.region == c.region) r.region c.region r.iterations c.after refl d.second;
     }
 
-here_tested : (same : Bool) (region at iterations after : ℕ) → (region == at) ≡ same → (region ≡ at → iterations ≡ after) → (not same || (iterations == after)) ≡ true
+here_tested : (same : Bool) (region at iterations after : ℕ) → (region == at) ≡ same → (region ≡ at → iterations ≡ after) →
+    (not same || (iterations == after)) ≡ true
 here_tested true region at iterations after e h = let is : iterations ≡ after = h (eqb-true region at e) in search (rules, tests)
 here_tested false region at iterations after e h = refl
 
@@ -167,15 +181,17 @@ next_tested c r counted within here =
     let a : nat_lt 0 r.region ≡ true = let lt : 0 < r.region = omega (arith, counted) in search rules in
     let b : (length c.reports == r.region - 1) ≡ true = let e : length c.reports ≡ r.region - 1 = omega (arith, counted) in search (rules, tests) in
     let d : nat_le r.region c.region ≡ true = search rules in
-    let e : (not (r.region == c.region) || (r.iterations == c.after)) ≡ true = here_tested (r.region == c.region) r.region c.region r.iterations c.after refl here in
+    let e : (not (r.region == c.region) || (r.iterations == c.after)) ≡ true = here_tested (r.region == c.region) r.region c.region r.iterations
+    c.after refl here in
     rw (a, b, d, e) refl
 
 -- the reports with one more
-pub more_reports : (place : Place) (cells : List ℤ) (reports : List RegionReport) (r : RegionReport) → ReportsFit (stopped place cells reports) → r.region ≡ suc (length reports) → ReportFits r → StopsHere (stopped place cells reports) r
+pub more_reports : (place : Place) (cells : List ℤ) (reports : List RegionReport) (r : RegionReport) → ReportsFit (stopped place cells reports) →
+    r.region ≡ suc (length reports) → ReportFits r → StopsHere (stopped place cells reports) r
     → ReportsFit (stopped place cells (reports ++ r ∷ []))
 more_reports place cells reports r f number fits here = record {
   regions =
-      map-append region_in reports (r ∷ [])
+      map-append reported_region reports (r ∷ [])
       ∙ ap (λ (ns : List ℕ). ns ++ r.region ∷ []) f.regions
       ∙ ap (λ (n : ℕ). numbers_from 1 (length reports) ++ n ∷ []) (number ∙ (let e : suc (length reports) ≡ 1 + length reports = omega arith in e))
       ∙ sym (numbers_from-append 1 (length reports) 1)

@@ -1,5 +1,6 @@
 -- What is read word by word, number by number and variable by variable.
-use Rattle.std.proofs.Common.{◌≡◌, ℕ, suc, ◌+◌, ◌<◌, ◌≤◌, ◌==◌, Bool, true, false, List, [], ◌∷◌, ◌++◌, length, drop, get_or, Option, Some, None, refl, sym, ap, ◌∙◌, length-append, arith, rules, tests}
+use Rattle.std.proofs.Common.{◌≡◌, ℕ, suc, ◌+◌, ◌<◌, ◌≤◌, ◌==◌, Bool, true, false, List, [], ◌∷◌, ◌++◌, length, drop, get_or, Option, Some, None, refl, sym, ap}
+use Rattle.std.proofs.Common.{◌∙◌, length-append, arith, rules, tests}
 use Rattle.std.specs.Prelude.{replicate}
 use Rattle.std.proofs.lemmas.List.{length-replicate}
 use Rattle.dp_room.proofs.ListLemmas.{next_of}
@@ -17,7 +18,8 @@ length_behind None = 0
 length_behind (Some text) = suc (length text)
 
 -- the cells of a variable, and those of the variables behind it
-pub cells_next : (vars : List VarInfo) (i : ℕ) (x : VarInfo) → i < length vars → x ≡ get_or vars i x → length (start_cells (drop i vars)) ≡ x.length + length (start_cells (drop (i + 1) vars))
+pub cells_next : (vars : List VarInfo) (i : ℕ) (x : VarInfo) → i < length vars → x ≡ get_or vars i x → length (start_cells (drop i vars)) ≡ x.length + length
+    (start_cells (drop (i + 1) vars))
 cells_next vars i x h is =
     ap (λ (xs : List VarInfo). length (start_cells xs)) (next_of vars i x h is)
     ∙ length-append (replicate x.length x.start) (start_cells (drop (i + 1) vars))

@@ -14,7 +14,7 @@ use Rattle.dp_save.specs.declared.reader.Reader.{Reader}
 use Rattle.dp_save.specs.declared.reader.Phase.TheVariants as phase
 use Rattle.dp_save.specs.CheckpointText.{CheckpointText, checkpoint_lines, line_bytes, report_words}
 use Rattle.dp_save.specs.Fits.{Fits}
-use Rattle.dp_save.specs.Refused.{IsCheckpoint, ReadsOnly, RefusedBy}
+use Rattle.dp_save.specs.Refused.{IsCheckpoint, ReadsOnlyCheckpoint, RefusedBy}
 use Rattle.dp_save.specs.WrittenText.{checkpoint_bytes}
 use Rattle.dp_save.specs.steps.LineWords.{Line}
 use Rattle.dp_save.specs.steps.Reading.{state}
@@ -33,11 +33,12 @@ module _ (p : Program) (bytes : List ℕ) where
       let ends : state phase.Over c ≡ state phase.Over other = cc same in
       sym (ap (λ (r : Reader). r.so_far) ends)
 
-  not_refused : (regions : List RegionInfo) (c : Checkpoint) (line : ℕ) → CheckpointText p bytes c → 0 < length regions → RefusedBy regions (IsCheckpoint p) (lines_of bytes) line → ⊥
+  not_refused : (regions : List RegionInfo) (c : Checkpoint) (line : ℕ) → CheckpointText p bytes c → 0 < length regions →
+      RefusedBy regions (IsCheckpoint p) (lines_of bytes) line → ⊥
   not_refused [] c line s some t = omega (arith, some)
   not_refused (r ∷ rest) c line s some t = unrefused (IsCheckpoint p) (lines_of bytes) line (c, s) t
 
-  pub read_only : (c : Checkpoint) → CheckpointText p bytes c → ReadsOnly p bytes c
+  pub read_only : (c : Checkpoint) → CheckpointText p bytes c → ReadsOnlyCheckpoint p bytes c
   read_only c s (Ok other) t = inl (ap (λ (q : Checkpoint). Ok q) (one_checkpoint c other s t))
   read_only c s (Err (Refused line)) t = absurd (not_refused p.regions c line s (omega (arith, s.fits.place.some_region, s.fits.place.region_exists)) t)
   read_only c s (Err NoMemory) t = inr refl
@@ -72,7 +73,7 @@ module _ (p : Program) (c : Checkpoint) (fits : Fits p c) where
 pub written_back : (p : Program) (c : Checkpoint) → Fits p c → CheckpointText p (checkpoint_bytes c) c
 written_back p c fits = read_back p c fits
 
-pub written_only : (p : Program) (c : Checkpoint) → Fits p c → ReadsOnly p (checkpoint_bytes c) c
+pub written_only : (p : Program) (c : Checkpoint) → Fits p c → ReadsOnlyCheckpoint p (checkpoint_bytes c) c
 written_only p c fits = read_only p (checkpoint_bytes c) c (read_back p c fits)
 
 pub read_fits : (p : Program) (bytes : List ℕ) (c : Checkpoint) → CheckpointText p bytes c → Fits p c

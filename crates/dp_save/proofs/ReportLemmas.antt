@@ -1,11 +1,12 @@
 -- The line of a report: its words, and the report that they say.
-use Rattle.std.proofs.Common.{◌≡◌, ℕ, zero, suc, ◌+◌, ◌^◌, ◌<◌, ◌≤◌, ◌==◌, min, Bool, true, false, not, ◌&&◌, nat_le, nat_lt, List, [], ◌∷◌, ◌++◌, map, length, codes, decimal, Option, Some, None, refl, sym, ap, subst, ◌∙◌, rules, arith, tests, eqb-true}
+use Rattle.std.proofs.Common.{◌≡◌, ℕ, zero, suc, ◌+◌, ◌^◌, ◌<◌, ◌≤◌, ◌==◌, min, Bool, true, false, not, ◌&&◌, nat_le, nat_lt, List, [], ◌∷◌, ◌++◌, map, length}
+use Rattle.std.proofs.Common.{codes, decimal, Option, Some, None, refl, sym, ap, subst, ◌∙◌, rules, arith, tests, eqb-true}
 use Rattle.std.specs.Prelude.{if◌then◌else◌}
 use Rattle.std.specs.Str.{bytes_eq}
 use Rattle.dp_base.specs.declared.RegionReport.{RegionReport}
 use Rattle.dp_base.specs.declared.limits.TheConstants.{FUEL, LISTED}
 use Rattle.dp_text.specs.Each.{Each}
-use Rattle.dp_text.specs.Words.{number_of}
+use Rattle.dp_text.specs.Words.{small_number}
 use Rattle.dp_text.proofs.JoinLemmas.{IsWord, AreWords, decimal_word, lacks}
 use Rattle.dp_text.proofs.NumberText.{number-sound, number_of-decimal}
 use Rattle.dp_text.proofs.Runs.{same_word}
@@ -18,7 +19,8 @@ use Rattle.dp_save.proofs.ValueLemmas.{AreCounts, IsCount, count-decimal, count_
 
 -- ---- numbers that ascend
 
-ascend_case : (low high i : ℕ) (rest : List ℕ) → (nat_le low i && (nat_lt i high && ascends (i + 1) high rest)) ≡ true → (ascends (i + 1) high rest ≡ true → AscendWithin (suc i) high rest) → AscendWithin low high (i ∷ rest)
+ascend_case : (low high i : ℕ) (rest : List ℕ) → (nat_le low i && (nat_lt i high && ascends (i + 1) high rest)) ≡ true →
+    (ascends (i + 1) high rest ≡ true → AscendWithin (suc i) high rest) → AscendWithin low high (i ∷ rest)
 ascend_case low high i rest h more =
     let a = both (nat_le low i) (nat_lt i high && ascends (i + 1) high rest) h in let b = both (nat_lt i high) (ascends (i + 1) high rest) a.second in
     (let e : nat_le low i ≡ true = a.first in search rules, let e : nat_lt i high ≡ true = b.first in search rules, more b.second)
@@ -50,7 +52,8 @@ pub record CountWords (n : ℕ) (ns : List ℕ) : Type 0 where
   pub reads : counted word (map decimal ns) ≡ Some n
   pub is_word : IsWord word
 
-lacks_case : (b : ℕ) (rest : List ℕ) (is : Bool) → (not is && lacks b rest) ≡ true → (lacks b rest ≡ true → lacks b (rest ++ codes ":") ≡ true) → (not is && lacks b (rest ++ codes ":")) ≡ true
+lacks_case : (b : ℕ) (rest : List ℕ) (is : Bool) → (not is && lacks b rest) ≡ true → (lacks b rest ≡ true → lacks b (rest ++ codes ":") ≡ true) →
+    (not is && lacks b (rest ++ codes ":")) ≡ true
 lacks_case b rest true e more = absurd (cc e)
 lacks_case b rest false e more = more e
 
@@ -86,8 +89,11 @@ tested r f =
     let c : ascends 0 r.iterations r.recovered ≡ true = ascend_tested 0 r.iterations r.recovered f.ascend in
     rw (a, b, c) refl
 
-without_causes : (r : RegionReport) → ReportFits r → record { region = r.region; iterations = r.iterations; recovered_count = r.recovered_count; recovered = r.recovered; causes = [] } ≡ r
-without_causes r f = ap (λ cs. record { region = r.region; iterations = r.iterations; recovered_count = r.recovered_count; recovered = r.recovered; causes = cs }) (sym f.uncaused)
+without_causes : (r : RegionReport) → ReportFits r →
+    record { region = r.region; iterations = r.iterations; recovered_count = r.recovered_count; recovered = r.recovered; causes = [] } ≡ r
+without_causes r f =
+    ap (λ cs. record { region = r.region; iterations = r.iterations; recovered_count = r.recovered_count; recovered = r.recovered; causes = cs })
+    (sym f.uncaused)
 
 module _ (r : RegionReport) (l : ReportLineFits r) where
   f : ReportFits r
@@ -96,14 +102,18 @@ module _ (r : RegionReport) (l : ReportLineFits r) where
   counted_so : CountWords r.recovered_count r.recovered
   counted_so = count_of_words r.recovered_count r.recovered (omega (arith, l.fits.again, l.fits.few)) l.fits.listed
 
-  pub report_rest : report_of (decimal r.region ∷ codes "iterations" ∷ decimal r.iterations ∷ codes "recovered" ∷ counted_words r.recovered_count r.recovered) ≡ Some r
+  pub report_rest : report_of (decimal r.region ∷ codes "iterations" ∷ decimal r.iterations ∷ codes "recovered" ∷ counted_words r.recovered_count
+      r.recovered) ≡ Some r
   report_rest =
       let g = counted_so in let ns = r.recovered in
       ap (λ (ws : List (List ℕ)). report_of (decimal r.region ∷ codes "iterations" ∷ decimal r.iterations ∷ codes "recovered" ∷ ws)) g.are
-      ∙ ap (λ (o : Option ℕ). report_from o (count (decimal r.iterations)) (counted g.word (map decimal ns)) (each_read count (map decimal ns))) (number_of-decimal r.region l.numbered)
-      ∙ ap (λ (o : Option ℕ). report_from (Some r.region) o (counted g.word (map decimal ns)) (each_read count (map decimal ns))) (count-decimal r.iterations l.fits.few)
+      ∙ ap (λ (o : Option ℕ). report_from o (count (decimal r.iterations)) (counted g.word (map decimal ns)) (each_read count (map decimal ns)))
+      (number_of-decimal r.region l.numbered)
+      ∙ ap (λ (o : Option ℕ). report_from (Some r.region) o (counted g.word (map decimal ns)) (each_read count (map decimal ns)))
+      (count-decimal r.iterations l.fits.few)
       ∙ ap (λ (o : Option ℕ). report_from (Some r.region) (Some r.iterations) o (each_read count (map decimal ns))) g.reads
-      ∙ ap (λ (o : Option (List ℕ)). report_from (Some r.region) (Some r.iterations) (Some r.recovered_count) o) (counts-decimal ns (below 0 r.iterations ns l.fits.few l.fits.ascend))
+      ∙ ap (λ (o : Option (List ℕ)). report_from (Some r.region) (Some r.iterations) (Some r.recovered_count) o)
+      (counts-decimal ns (below 0 r.iterations ns l.fits.few l.fits.ascend))
       ∙ ap fitting (without_causes r l.fits)
       ∙ (let t = tested r l.fits in rw t refl)
 
@@ -144,12 +154,14 @@ none_listed : (n : ℕ) → length {A = ℕ} [] ≡ min n LISTED → counted_wor
 none_listed zero long = refl
 none_listed (suc n) long = absurd (omega (arith, long))
 
-count_case : (word : List ℕ) (words : List (List ℕ)) (n : ℕ) (ns : List ℕ) → AreCounts words ns → counted word words ≡ Some n → length ns ≡ min n LISTED → word ∷ words ≡ counted_words n ns
+count_case : (word : List ℕ) (words : List (List ℕ)) (n : ℕ) (ns : List ℕ) → AreCounts words ns → counted word words ≡ Some n → length ns ≡ min n LISTED →
+    word ∷ words ≡ counted_words n ns
 count_case word [] n [] a h long = ap (λ (w : List ℕ). w ∷ []) (count_sound word n h).is ∙ sym (none_listed n long)
 count_case word [] n (k ∷ ns) a h long = let bad : [] ≡ decimal k ∷ map decimal ns = a.are in absurd (cc bad)
 count_case word (w ∷ words) n [] a h long = let bad : w ∷ words ≡ [] = a.are in absurd (cc bad)
 count_case word (w ∷ words) n (k ∷ ns) a h long =
-    ap (λ (x : List ℕ). x ∷ w ∷ words) (colon_case word (before_colon word) n refl h) ∙ ap (λ (xs : List (List ℕ)). (decimal n ++ codes ":") ∷ xs) a.are ∙ sym (listed_words n k ns long)
+    ap (λ (x : List ℕ). x ∷ w ∷ words) (colon_case word (before_colon word) n refl h) ∙ ap (λ (xs : List (List ℕ)). (decimal n ++ codes ":") ∷ xs) a.are
+    ∙ sym (listed_words n k ns long)
 
 -- the report, by tests that it passes
 report_tested : (r : RegionReport) → r.iterations ≤ FUEL → r.causes ≡ [] → counts_fit r ≡ true → ReportFits r
@@ -167,8 +179,10 @@ report_tested r few none h =
 abbrev made : ℕ → ℕ → ℕ → List ℕ → RegionReport
 made region iterations again ns = record { region = region; iterations = iterations; recovered_count = again; recovered = ns; causes = [] }
 
-made_case : (a b c : List ℕ) (words : List (List ℕ)) (region iterations again : ℕ) (ns : List ℕ) (r : RegionReport) → number_of a ≡ Some region → count b ≡ Some iterations → counted c words ≡ Some again → each_read count words ≡ Some ns
-    → fitting (record { region = region; iterations = iterations; recovered_count = again; recovered = ns; causes = [] }) ≡ Some r → ReportSays (a ∷ codes "iterations" ∷ b ∷ codes "recovered" ∷ c ∷ words) r
+made_case : (a b c : List ℕ) (words : List (List ℕ)) (region iterations again : ℕ) (ns : List ℕ) (r : RegionReport) → small_number a ≡ Some region →
+    count b ≡ Some iterations → counted c words ≡ Some again → each_read count words ≡ Some ns
+    → fitting (record { region = region; iterations = iterations; recovered_count = again; recovered = ns; causes = [] }) ≡ Some r →
+    ReportSays (a ∷ codes "iterations" ∷ b ∷ codes "recovered" ∷ c ∷ words) r
 made_case a b c words region iterations again ns r p q s t h =
     let k = taken (counts_fit (made region iterations again ns)) (made region iterations again ns) r h in
     let wa = number-sound 4294967295 (omega arith) a region p in let wb = count_sound b iterations q in
@@ -177,11 +191,13 @@ made_case a b c words region iterations again ns r p q s t h =
       are =
           ap (λ (x : List ℕ). x ∷ codes "iterations" ∷ b ∷ codes "recovered" ∷ c ∷ words) wa.is
           ∙ ap (λ (x : List ℕ). decimal region ∷ codes "iterations" ∷ x ∷ codes "recovered" ∷ c ∷ words) wb.is
-          ∙ ap (λ (xs : List (List ℕ)). decimal region ∷ codes "iterations" ∷ decimal iterations ∷ codes "recovered" ∷ xs) (count_case c words again ns (counts_sound words ns t) s f.listed);
+          ∙ ap (λ (xs : List (List ℕ)). decimal region ∷ codes "iterations" ∷ decimal iterations ∷ codes "recovered" ∷ xs)
+          (count_case c words again ns (counts_sound words ns t) s f.listed);
       fits = record { numbered = omega (arith, wa.small); fits = f };
     })
 
-from_case : (a b c : List ℕ) (words : List (List ℕ)) (region iterations again : Option ℕ) (ns : Option (List ℕ)) (r : RegionReport) → number_of a ≡ region → count b ≡ iterations → counted c words ≡ again → each_read count words ≡ ns
+from_case : (a b c : List ℕ) (words : List (List ℕ)) (region iterations again : Option ℕ) (ns : Option (List ℕ)) (r : RegionReport) → small_number a ≡ region →
+    count b ≡ iterations → counted c words ≡ again → each_read count words ≡ ns
     → report_from region iterations again ns ≡ Some r → ReportSays (a ∷ codes "iterations" ∷ b ∷ codes "recovered" ∷ c ∷ words) r
 from_case a b c words (Some region) (Some iterations) (Some again) (Some ns) r p q s t h = made_case a b c words region iterations again ns r p q s t h
 from_case a b c words None iterations again ns r p q s t h = absurd (cc h)
@@ -189,10 +205,12 @@ from_case a b c words (Some region) None again ns r p q s t h = absurd (cc h)
 from_case a b c words (Some region) (Some iterations) None ns r p q s t h = absurd (cc h)
 from_case a b c words (Some region) (Some iterations) (Some again) None r p q s t h = absurd (cc h)
 
-labels_case : (a i b j c : List ℕ) (words : List (List ℕ)) (x y : Bool) (r : RegionReport) → bytes_eq i (codes "iterations") ≡ x → bytes_eq j (codes "recovered") ≡ y
+labels_case : (a i b j c : List ℕ) (words : List (List ℕ)) (x y : Bool) (r : RegionReport) → bytes_eq i (codes "iterations") ≡ x →
+    bytes_eq j (codes "recovered") ≡ y
     → (if x && y then report_by a b c words else None) ≡ Some r → ReportSays (a ∷ i ∷ b ∷ j ∷ c ∷ words) r
 labels_case a i b j c words true true r p q h =
-    rw (same_word i (codes "iterations") p, same_word j (codes "recovered") q) (from_case a b c words (number_of a) (count b) (counted c words) (each_read count words) r refl refl refl refl h)
+    rw (same_word i (codes "iterations") p, same_word j (codes "recovered") q) (from_case a b c words (small_number a) (count b) (counted c words)
+    (each_read count words) r refl refl refl refl h)
 labels_case a i b j c words true false r p q h = absurd (cc h)
 labels_case a i b j c words false y r p q h = absurd (cc h)
 

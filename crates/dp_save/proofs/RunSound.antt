@@ -1,5 +1,6 @@
 -- Lines that are read one after the other begin the text of a checkpoint.
-use Rattle.std.proofs.Common.{◌≡◌, ℕ, suc, ◌+◌, ◌-◌, ◌<◌, ◌≤◌, ◌==◌, Bool, true, not, ◌&&◌, List, [], ◌∷◌, ◌++◌, map, length, ℤ, Some, refl, sym, ap, subst, ◌∙◌, rules, arith, tests, eqb-true, length-append}
+use Rattle.std.proofs.Common.{◌≡◌, ℕ, suc, ◌+◌, ◌-◌, ◌<◌, ◌≤◌, ◌==◌, Bool, true, not, ◌&&◌, List, [], ◌∷◌, ◌++◌, map, length, ℤ, Some, refl, sym, ap, subst}
+use Rattle.std.proofs.Common.{◌∙◌, rules, arith, tests, eqb-true, length-append}
 use Rattle.std.proofs.lemmas.List.{map-append}
 use Rattle.dp_base.specs.declared.RegionReport.{RegionReport}
 use Rattle.dp_text.specs.Each.{Each}
@@ -33,9 +34,12 @@ pub data Reads (p : Program) : Reader → List Line → Type 0 where
   at_start : Reads p begun []
   headed : Reads p (state phase.Headed (stopped nowhere [] [])) (Head ∷ [])
   placed_at : (place : Place) → PlaceFits p (stopped place [] []) → Reads p (state phase.Placed (stopped place [] [])) (Head ∷ At place ∷ [])
-  holding : (place : Place) (written : List (List ℕ)) (cells : List ℤ) (reports : List RegionReport) → PlaceFits p (stopped place cells reports) → WriteAll written cells → CellsFit p cells
-      → ReportsFit (stopped place cells reports) → length reports ≤ place.region → Reads p (state phase.Held (stopped place cells reports)) (opening place written cells reports)
-  at_end : (place : Place) (written : List (List ℕ)) (cells : List ℤ) (reports : List RegionReport) → WriteAll written cells → Fits p (stopped place cells reports)
+  holding : (place : Place) (written : List (List ℕ)) (cells : List ℤ) (reports : List RegionReport) → PlaceFits p (stopped place cells reports) →
+      WriteAll written cells → CellsFit p cells
+      → ReportsFit (stopped place cells reports) → length reports ≤ place.region → Reads p (state phase.Held (stopped place cells reports))
+      (opening place written cells reports)
+  at_end : (place : Place) (written : List (List ℕ)) (cells : List ℤ) (reports : List RegionReport) → WriteAll written cells →
+      Fits p (stopped place cells reports)
       → Reads p (state phase.Over (stopped place cells reports)) (whole place written cells reports)
 
 module _ (p : Program) where
@@ -61,7 +65,8 @@ module _ (p : Program) where
   no_reports : (place : Place) (cells : List ℤ) → ReportsFit (stopped place cells [])
   no_reports place cells = record { regions = refl; each = tt; here = tt }
 
-  placed_after : (place : Place) → PlaceFits p (stopped place [] []) → (l : Line) (s : Reader) → LineFits l → next p (state phase.Placed (stopped place [] [])) l ≡ Some s → Reads p s (Head ∷ At place ∷ l ∷ [])
+  placed_after : (place : Place) → PlaceFits p (stopped place [] []) → (l : Line) (s : Reader) → LineFits l →
+      next p (state phase.Placed (stopped place [] [])) l ≡ Some s → Reads p s (Head ∷ At place ∷ l ∷ [])
   unfolding next
   placed_after place f Head s fits h = absurd (cc h)
   placed_after place f (At other) s fits h = absurd (cc h)
@@ -73,27 +78,32 @@ module _ (p : Program) where
   placed_after place f End s fits h = absurd (cc h)
 
   module _ (place : Place) (written : List (List ℕ)) (cells : List ℤ) (reports : List RegionReport)
-      (f : PlaceFits p (stopped place cells reports)) (w : WriteAll written cells) (c : CellsFit p cells) (rs : ReportsFit (stopped place cells reports)) (few : length reports ≤ place.region) where
+      (f : PlaceFits p (stopped place cells reports)) (w : WriteAll written cells) (c : CellsFit p cells) (rs : ReportsFit (stopped place cells reports))
+      (few : length reports ≤ place.region) where
     report_lines : (r : RegionReport) → opening place written cells (reports ++ r ∷ []) ≡ opening place written cells reports ++ Report r ∷ []
     report_lines r = ap (λ (ls : List Line). Head ∷ At place ∷ Cells written cells ∷ ls) (map-append Report reports (r ∷ []))
 
-    report_after : (r : RegionReport) (s : Reader) → LineFits (Report r) → report_next (state phase.Held (stopped place cells reports)) r ≡ Some s → Reads p s (opening place written cells reports ++ Report r ∷ [])
+    report_after : (r : RegionReport) (s : Reader) → LineFits (Report r) → report_next (state phase.Held (stopped place cells reports)) r ≡ Some s →
+        Reads p s (opening place written cells reports ++ Report r ∷ [])
     report_after r s fits h =
         let t = taken (is_next (stopped place cells reports) r) (state phase.Held (stopped place cells (reports ++ r ∷ []))) s h in
         let n = next_sound (stopped place cells reports) r t.0 in
         let longer : length (reports ++ r ∷ []) ≤ place.region = omega (arith, n.within, n.counted, length-append reports (r ∷ [])) in
         subst (λ (q : Reader). Reads p q (opening place written cells reports ++ Report r ∷ [])) t.1
         (subst (λ (ls : List Line). Reads p (state phase.Held (stopped place cells (reports ++ r ∷ []))) ls) (report_lines r)
-        (holding place written cells (reports ++ r ∷ []) (same_place p place cells cells reports (reports ++ r ∷ []) f) w c (more_reports place cells reports r rs n.counted fits.fits n.here) longer))
+        (holding place written cells (reports ++ r ∷ []) (same_place p place cells cells reports (reports ++ r ∷ []) f) w c
+        (more_reports place cells reports r rs n.counted fits.fits n.here) longer))
 
-    end_after : (s : Reader) → next p (state phase.Held (stopped place cells reports)) End ≡ Some s → Reads p s (opening place written cells reports ++ End ∷ [])
+    end_after : (s : Reader) → next p (state phase.Held (stopped place cells reports)) End ≡ Some s →
+        Reads p s (opening place written cells reports ++ End ∷ [])
     unfolding next
     end_after s h =
         let t = taken (length reports == place.region) (state phase.Over (stopped place cells reports)) s h in
         subst (λ (q : Reader). Reads p q (opening place written cells reports ++ End ∷ [])) t.1
         (at_end place written cells reports w (record { place = f; cells = c; reports = rs; all = eqb-true (length reports) place.region t.0 }))
 
-    held_after : (l : Line) (s : Reader) → LineFits l → next p (state phase.Held (stopped place cells reports)) l ≡ Some s → Reads p s (opening place written cells reports ++ l ∷ [])
+    held_after : (l : Line) (s : Reader) → LineFits l → next p (state phase.Held (stopped place cells reports)) l ≡ Some s →
+        Reads p s (opening place written cells reports ++ l ∷ [])
     unfolding next
     held_after Head s fits h = absurd (cc h)
     held_after (At other) s fits h = absurd (cc h)
@@ -101,7 +111,8 @@ module _ (p : Program) where
     held_after (Report r) s fits h = report_after r s fits h
     held_after End s fits h = end_after s h
 
-  over_after : (place : Place) (cells : List ℤ) (reports : List RegionReport) (l : Line) (s : Reader) → next p (state phase.Over (stopped place cells reports)) l ≡ Some s → ⊥
+  over_after : (place : Place) (cells : List ℤ) (reports : List RegionReport) (l : Line) (s : Reader) →
+      next p (state phase.Over (stopped place cells reports)) l ≡ Some s → ⊥
   unfolding next
   over_after place cells reports Head s h = cc h
   over_after place cells reports (At other) s h = cc h

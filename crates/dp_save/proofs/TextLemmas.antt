@@ -1,5 +1,6 @@
 -- What a text of a checkpoint that is read line by line is read as.
-use Rattle.std.proofs.Common.{◌≡◌, ℕ, zero, suc, ◌+◌, ◌<◌, ◌≤◌, ◌==◌, Bool, true, false, List, [], ◌∷◌, ◌++◌, map, length, ℤ, Option, Some, None, refl, sym, ap, subst, ◌∙◌, arith}
+use Rattle.std.proofs.Common.{◌≡◌, ℕ, zero, suc, ◌+◌, ◌<◌, ◌≤◌, ◌==◌, Bool, true, false, List, [], ◌∷◌, ◌++◌, map, length, ℤ, Option, Some, None, refl, sym, ap}
+use Rattle.std.proofs.Common.{subst, ◌∙◌, arith}
 use Rattle.std.specs.Prelude.{if◌then◌else◌}
 use Rattle.std.proofs.lemmas.List.{map-append}
 use Rattle.dp_base.specs.declared.RegionReport.{RegionReport}
@@ -19,7 +20,7 @@ use Rattle.dp_save.specs.declared.reader.Phase.{Phase}
 use Rattle.dp_save.specs.declared.reader.Phase.TheVariants as phase
 use Rattle.dp_save.specs.CheckpointText.{CheckpointLines, WriteAll, checkpoint_lines, line_bytes, report_words}
 use Rattle.dp_save.specs.Fits.{Fits}
-use Rattle.dp_save.specs.Refused.{IsCheckpoint, ReadsAs, RefusedBy}
+use Rattle.dp_save.specs.Refused.{IsCheckpoint, ReadsAsCheckpoint, RefusedBy}
 use Rattle.dp_save.specs.steps.Ending.{finished}
 use Rattle.dp_save.specs.steps.LineWords.{Line, Head, At, Cells, Report, End, line_of}
 use Rattle.dp_save.specs.steps.Reading.{begun, is_over, next, next_by, state, stopped}
@@ -56,7 +57,8 @@ reports_bytes : (reports : List RegionReport) → map bytes_of (map Report repor
 reports_bytes [] = refl
 reports_bytes (r ∷ reports) = ap (λ (bs : List (List ℕ)). line_bytes (report_words r) ∷ bs) (reports_bytes reports)
 
-pub whole_bytes : (place : Place) (written : List (List ℕ)) (cells : List ℤ) (reports : List RegionReport) → map bytes_of (whole place written cells reports) ≡ map line_bytes (checkpoint_lines (stopped place cells reports) written)
+pub whole_bytes : (place : Place) (written : List (List ℕ)) (cells : List ℤ) (reports : List RegionReport) →
+    map bytes_of (whole place written cells reports) ≡ map line_bytes (checkpoint_lines (stopped place cells reports) written)
 whole_bytes place written cells reports =
     ap (λ (bs : List (List ℕ)). bytes_of Head ∷ bytes_of (At place) ∷ bytes_of (Cells written cells) ∷ bs)
     (map-append bytes_of (map Report reports) (End ∷ [])
@@ -89,7 +91,8 @@ reads_over p _ _ (holding place written cells reports f w c rs few) h = absurd (
 
 module _ (p : Program) where
   -- the lines of a text of the grammar are read to their end
-  pub text_runs : (lines : List (List ℕ)) (c : Checkpoint) → CheckpointLines p lines c → run_bytes (checkpoint_grammar p) (Some begun) lines ≡ Some (state phase.Over c)
+  pub text_runs : (lines : List (List ℕ)) (c : Checkpoint) → CheckpointLines p lines c → run_bytes (checkpoint_grammar p) (Some begun) lines ≡ Some
+      (state phase.Over c)
   unfolding next_by
   text_runs lines c t =
       let g = checkpoint_grammar p in
@@ -100,8 +103,19 @@ module _ (p : Program) where
   module _ (some : 0 < length p.regions) where
     reads_on : (s : Reader) (ls : List Line) → Reads p s ls → (more : List Line) × IsCheckpoint p (map bytes_of (ls ++ more))
     reads_on s ls r =
-        let e : Ends p ls = reads_end p some s ls r in
-        (e.more, (stopped e.place e.cells e.reports, record { written = e.written; write = e.write; lines_are = ap (map bytes_of) e.are ∙ whole_bytes e.place e.written e.cells e.reports; fits = e.fits }))
+        let e : Ends p ls = reads_end p some s ls r in (
+          e.more,
+          (
+            stopped e.place e.cells e.reports,
+            record {
+              written = e.written;
+              write = e.write;
+              lines_are = ap (map
+                  bytes_of) e.are ∙ whole_bytes e.place e.written e.cells e.reports;
+              fits = e.fits;
+            },
+          ),
+        )
 
     checkpoint_texts : Texts (checkpoint_grammar p) (IsCheckpoint p) (λ s. is_over s.phase)
     checkpoint_texts = record {
@@ -123,7 +137,8 @@ first_some : (byte : ℕ) (lines : List (List ℕ)) (n : ℕ) → length lines �
 first_some byte [] n h = omega arith
 first_some byte (line ∷ lines) n h = omega (arith, h)
 
-few_case : (byte : ℕ) (lines : List (List ℕ)) (n : ℕ) (is : Bool) → length lines ≤ n → length (if is then (byte ∷ []) ∷ lines else onto_first byte lines) ≤ suc n
+few_case : (byte : ℕ) (lines : List (List ℕ)) (n : ℕ) (is : Bool) → length lines ≤ n →
+    length (if is then (byte ∷ []) ∷ lines else onto_first byte lines) ≤ suc n
 few_case byte lines n true h = omega (arith, h)
 few_case byte lines n false h = first_some byte lines n h
 
@@ -135,16 +150,25 @@ refused_within : (IsIt : List (List ℕ) → Type 0) (lines : List (List ℕ)) (
 refused_within IsIt lines _ (at_line line low high before here) = omega (arith, high)
 refused_within IsIt lines _ (at_end line is before none) = omega (arith, is)
 
-refused_by : (regions : List RegionInfo) (IsIt : List (List ℕ) → Type 0) (lines : List (List ℕ)) (line : ℕ) → 0 < length regions → IsRefusedAt IsIt lines line → RefusedBy regions IsIt lines line
+refused_by : (regions : List RegionInfo) (IsIt : List (List ℕ) → Type 0) (lines : List (List ℕ)) (line : ℕ) → 0 < length regions → IsRefusedAt IsIt lines line →
+    RefusedBy regions IsIt lines line
 refused_by [] IsIt lines line some h = absurd (omega (arith, some))
 refused_by (r ∷ rest) IsIt lines line some h = h
 
-some_read : (p : Program) (some : 0 < length p.regions) (bytes : List ℕ) (r : Reading Reader) → AreRead (checkpoint_texts p some) (lines_of bytes) r → ReadsRightly p bytes r
+some_read : (p : Program) (some : 0 < length p.regions) (bytes : List ℕ) (r : Reading Reader) → AreRead (checkpoint_texts p some) (lines_of bytes) r →
+    ReadsRightly p bytes r
 some_read p some bytes (reading.Over s) e =
     let t : IsText p s.so_far e.0.lines = reads_over p s e.0.lines e.0.reads (over_phase s.phase e.1) in
     record { written = t.written; write = t.write; lines_are = e.0.are ∙ t.are; fits = t.fits }
-some_read p some bytes (reading.Refused line) e =
-    (refused_by p.regions (IsCheckpoint p) (lines_of bytes) line some e, omega (arith, refused_within (IsCheckpoint p) (lines_of bytes) line e, few_lines bytes))
+some_read p some bytes (reading.Refused line) e = (
+  refused_by p.regions (IsCheckpoint p) (lines_of bytes) line some e,
+  omega (
+    arith,
+    refused_within (IsCheckpoint p) (lines_of
+        bytes) line e,
+    few_lines bytes,
+  ),
+)
 
 -- ---- without a region
 
@@ -161,10 +185,12 @@ none_after : (p : Program) → length p.regions ≡ 0 → (o : Option (List ℕ)
 none_after p none None = refl
 none_after p none (Some text) = none_begins p none (line_of (Rattle.dp_text.specs.Words.words text))
 
-none_read : (p : Program) → length p.regions ≡ 0 → (lines : List (List ℕ)) → read_from (next_text (checkpoint_grammar p)) (λ s. is_over s.phase) 1 begun lines ≡ reading.Refused 1
+none_read : (p : Program) → length p.regions ≡ 0 → (lines : List (List ℕ)) → read_from (next_text (checkpoint_grammar p)) (λ s. is_over s.phase) 1 begun
+    lines ≡ reading.Refused 1
 none_read p none [] = refl
 none_read p none (line ∷ rest) =
-    ap (λ (o : Option Reader). go_on 1 o (λ later. read_from (next_text (checkpoint_grammar p)) (λ s. is_over s.phase) (1 + 1) later rest)) (none_after p none (chomped line))
+    ap (λ (o : Option Reader). go_on 1 o (λ later. read_from (next_text (checkpoint_grammar p)) (λ s. is_over s.phase) (1 + 1) later rest))
+    (none_after p none (chomped line))
 
 refused_first : (regions : List RegionInfo) (IsIt : List (List ℕ) → Type 0) (lines : List (List ℕ)) → length regions ≡ 0 → RefusedBy regions IsIt lines 1
 refused_first [] IsIt lines h = refl
@@ -172,7 +198,8 @@ refused_first (r ∷ rest) IsIt lines h = absurd (cc h)
 
 -- what a text is read as, line by line
 text_case : (p : Program) (bytes : List ℕ) (n : ℕ) → length p.regions ≡ n → ReadsRightly p bytes (read_by p bytes)
-text_case p bytes zero none = subst (ReadsRightly p bytes) (sym (none_read p none (lines_of bytes))) (refused_first p.regions (IsCheckpoint p) (lines_of bytes) none, omega arith)
+text_case p bytes zero none =
+    subst (ReadsRightly p bytes) (sym (none_read p none (lines_of bytes))) (refused_first p.regions (IsCheckpoint p) (lines_of bytes) none, omega arith)
 text_case p bytes (suc n) some =
     let enough : 0 < length p.regions = omega (arith, some) in
     some_read p enough bytes (read_by p bytes) (are_read (checkpoint_texts p enough) bytes)
@@ -180,11 +207,11 @@ text_case p bytes (suc n) some =
 pub text_read : (p : Program) (bytes : List ℕ) → ReadsRightly p bytes (read_by p bytes)
 text_read p bytes = text_case p bytes (length p.regions) refl
 
-finishes : (p : Program) (bytes : List ℕ) (r : Reading Reader) → ReadsRightly p bytes r → ReadsAs p bytes (finished r)
+finishes : (p : Program) (bytes : List ℕ) (r : Reading Reader) → ReadsRightly p bytes r → ReadsAsCheckpoint p bytes (finished r)
 finishes p bytes (reading.Over s) h = h
 finishes p bytes (reading.Refused line) h = h.0
 
-pub reads_as : (p : Program) (bytes : List ℕ) → ReadsAs p bytes (finished (read_by p bytes))
+pub reads_as : (p : Program) (bytes : List ℕ) → ReadsAsCheckpoint p bytes (finished (read_by p bytes))
 reads_as p bytes = finishes p bytes (read_by p bytes) (text_read p bytes)
 
 numbered_case : (p : Program) (bytes : List ℕ) (r : Reading Reader) (line : ℕ) → ReadsRightly p bytes r → r ≡ reading.Refused line → line ≤ length bytes + 1

@@ -1,5 +1,6 @@
 -- A value and the word that writes it; a list of values or counts and their words.
-use Rattle.std.proofs.Common.{◌≡◌, ◌⊎◌, inl, inr, ℕ, zero, suc, ◌-◌, ◌^◌, ◌<◌, ◌≤◌, ◌==◌, Bool, true, false, ◌&&◌, nat_le, nat_lt, List, [], ◌∷◌, map, length, codes, decimal, ℤ, pos, negsuc, neg_ℤ, Option, Some, None, refl, sym, ap, subst, ◌∙◌, rules, arith, tests}
+use Rattle.std.proofs.Common.{◌≡◌, ◌⊎◌, inl, inr, ℕ, zero, suc, ◌-◌, ◌^◌, ◌<◌, ◌≤◌, ◌==◌, Bool, true, false, ◌&&◌, nat_le, nat_lt, List, [], ◌∷◌, map, length}
+use Rattle.std.proofs.Common.{codes, decimal, ℤ, pos, negsuc, neg_ℤ, Option, Some, None, refl, sym, ap, subst, ◌∙◌, rules, arith, tests}
 use Rattle.std.specs.Prelude.{if◌then◌else◌}
 use Rattle.std.specs.Fmt.{signed_decimal}
 use Rattle.std.specs.List.{list_all}
@@ -14,9 +15,6 @@ use Rattle.dp_text.proofs.NumberText.{Writes as WritesNumber, digits-decimal, nu
 use Rattle.dp_save.specs.CheckpointText.{Writes, WriteAll}
 use Rattle.dp_save.specs.steps.LineWords.{before, count, each_read, in_64_bits, onto_list, value_of}
 
-abbrev pub top : ℕ
-top = 2 ^ 64 - 1
-
 abbrev pub Wide : ℤ → Type 0
 Wide z = fits z ≡ true
 
@@ -30,17 +28,20 @@ minus_writes : (n : ℕ) → Writes (45 ∷ decimal n) (neg_ℤ (pos n))
 minus_writes zero = inr (ap (λ (d : List ℕ). 45 ∷ d) (decimal_digit 0 (omega arith)), refl)
 minus_writes (suc n) = inl refl
 
-fit_case : (sign : ℕ → ℤ) (n : ℕ) (z : ℤ) (is : Bool) → fits (sign n) ≡ is → (if is then Some (sign n) else None) ≡ Some z → (sign n ≡ z) × (fits (sign n) ≡ true)
+fit_case : (sign : ℕ → ℤ) (n : ℕ) (z : ℤ) (is : Bool) → fits (sign n) ≡ is → (if is then Some (sign n) else None) ≡ Some z → (sign n ≡ z)
+    × (fits (sign n) ≡ true)
 fit_case sign n z true e h = (cc h, e)
 fit_case sign n z false e h = absurd (cc h)
 
-read_case : (sign : ℕ → ℤ) (digits : List ℕ) (o : Option ℕ) (z : ℤ) → number_upto (2 ^ 64 - 1) digits ≡ o → in_64_bits sign o ≡ Some z → (n : ℕ) × (digits ≡ decimal n) × (sign n ≡ z) × (fits (sign n) ≡ true)
+read_case : (sign : ℕ → ℤ) (digits : List ℕ) (o : Option ℕ) (z : ℤ) → number_upto (2 ^ 64 - 1) digits ≡ o → in_64_bits sign o ≡ Some z → (n : ℕ)
+    × (digits ≡ decimal n) × (sign n ≡ z) × (fits (sign n) ≡ true)
 read_case sign digits None z e h = absurd (cc h)
 read_case sign digits (Some n) z e h =
     let f = fit_case sign n z (fits (sign n)) refl h in (n, (number-sound (2 ^ 64 - 1) (omega arith) digits n e).is, f.0, f.1)
 
 sign_case : (byte : ℕ) (rest : List ℕ) (z : ℤ) (is : Bool) → (byte == 45) ≡ is
-    → (if is then in_64_bits (λ n. neg_ℤ (pos n)) (number_upto (2 ^ 64 - 1) rest) else in_64_bits pos (number_upto (2 ^ 64 - 1) (byte ∷ rest))) ≡ Some z → IsValue (byte ∷ rest) z
+    → (if is then in_64_bits (λ n. neg_ℤ (pos n)) (number_upto (2 ^ 64 - 1) rest) else in_64_bits pos (number_upto (2 ^ 64 - 1) (byte ∷ rest))) ≡ Some z →
+    IsValue (byte ∷ rest) z
 sign_case byte rest z true e h =
     let r = read_case (λ n. neg_ℤ (pos n)) rest (number_upto (2 ^ 64 - 1) rest) z refl h in
     let minus : byte ≡ 45 = search (rules, tests) in
@@ -63,7 +64,8 @@ digit_case byte false high more e f h = absurd (cc h)
 
 plain_value : (digits : List ℕ) → 0 < length digits → list_all is_digit digits ≡ true → value_of digits ≡ in_64_bits pos (number_upto (2 ^ 64 - 1) digits)
 plain_value [] some h = absurd (omega (arith, some))
-plain_value (byte ∷ rest) some h = let other : (byte == 45) ≡ false = digit_case byte (nat_le 48 byte) (nat_le byte 57) (list_all is_digit rest) refl refl h in rw other refl
+plain_value (byte ∷ rest) some h =
+    let other : (byte == 45) ≡ false = digit_case byte (nat_le 48 byte) (nat_le byte 57) (list_all is_digit rest) refl refl h in rw other refl
 
 small_size : (n : ℕ) (is : Bool) → nat_lt n (2 ^ 63) ≡ is → is ≡ true → n < 2 ^ 63
 small_size n true e h = search rules

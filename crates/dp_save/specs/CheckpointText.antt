@@ -3,7 +3,7 @@ use Rattle.std.specs.Prelude.{◌≡◌, ◌⊎◌, ℕ, ◌==◌, if◌then◌e
 use Rattle.std.specs.Fmt.{signed_decimal}
 use Rattle.dp_base.specs.declared.RegionReport.{RegionReport}
 use Rattle.dp_text.specs.Lines.{lines_of}
-use Rattle.dp_text.specs.Words.{joined}
+use Rattle.dp_text.specs.Words.{joined_words}
 use Rattle.dp_tree.specs.declared.Program.{Program}
 use Rattle.dp_save.specs.declared.Checkpoint.{Checkpoint}
 use Rattle.dp_save.specs.Fits.{Fits}
@@ -38,7 +38,7 @@ checkpoint_lines c written = head_words ∷ place_words c ∷ cells_words writte
 
 -- a line's bytes: its words with single spaces between, and LF
 abbrev pub line_bytes : List (List ℕ) → List ℕ
-line_bytes words = joined words ++ 10 ∷ []
+line_bytes words = joined_words words ++ 10 ∷ []
 
 -- the word writes the value: in decimal without leading zeros, behind a minus where it is negative; 0 may have a minus, too
 abbrev pub Writes : List ℕ → ℤ → Type 0

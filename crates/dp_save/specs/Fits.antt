@@ -51,8 +51,8 @@ pub record ReportFits (r : RegionReport) : Type 0 where
   pub uncaused : r.causes ≡ []
 
 -- the report's region
-abbrev pub region_in : RegionReport → ℕ
-region_in r = r.region
+abbrev pub reported_region : RegionReport → ℕ
+reported_region r = r.region
 
 -- the region in which the run was saved has as many iterations as were made of it
 abbrev pub StopsHere : Checkpoint → RegionReport → Type 0
@@ -60,7 +60,7 @@ StopsHere c r = r.region ≡ c.region → r.iterations ≡ c.after
 
 -- the reports are those of the first regions, in order
 pub record ReportsFit (c : Checkpoint) : Type 0 where
-  pub regions : map region_in c.reports ≡ numbers_from 1 (length c.reports)
+  pub regions : map reported_region c.reports ≡ numbers_from 1 (length c.reports)
   pub each : Each ReportFits c.reports
   pub here : Each (StopsHere c) c.reports
 

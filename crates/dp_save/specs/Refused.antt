@@ -19,15 +19,15 @@ RefusedBy [] IsText lines line = line ≡ 1
 RefusedBy (r ∷ rest) IsText lines line = IsRefusedAt IsText lines line
 
 -- the text isn't in the grammar, from this line on
-abbrev pub IsRefused : Program → List ℕ → ℕ → Type 0
-IsRefused p bytes line = RefusedBy p.regions (IsCheckpoint p) (lines_of bytes) line
+abbrev pub IsRefusedCheckpoint : Program → List ℕ → ℕ → Type 0
+IsRefusedCheckpoint p bytes line = RefusedBy p.regions (IsCheckpoint p) (lines_of bytes) line
 
 -- what a text is read as; want of memory may come at any place
-abbrev pub ReadsAs : Program → List ℕ → Result Checkpoint CheckpointFail → Type 0
-ReadsAs p bytes (Ok c) = CheckpointText p bytes c
-ReadsAs p bytes (Err (Refused line)) = IsRefused p bytes line
-ReadsAs p bytes (Err NoMemory) = Unit {0}
+abbrev pub ReadsAsCheckpoint : Program → List ℕ → Result Checkpoint CheckpointFail → Type 0
+ReadsAsCheckpoint p bytes (Ok c) = CheckpointText p bytes c
+ReadsAsCheckpoint p bytes (Err (Refused line)) = IsRefusedCheckpoint p bytes line
+ReadsAsCheckpoint p bytes (Err NoMemory) = Unit {0}
 
 -- reading the text gives this checkpoint and nothing else, unless memory is wanting
-abbrev pub ReadsOnly : Program → List ℕ → Checkpoint → Type 0
-ReadsOnly p bytes c = (result : Result Checkpoint CheckpointFail) → ReadsAs p bytes result → (result ≡ Ok c) ⊎ (result ≡ Err NoMemory)
+abbrev pub ReadsOnlyCheckpoint : Program → List ℕ → Checkpoint → Type 0
+ReadsOnlyCheckpoint p bytes c = (result : Result Checkpoint CheckpointFail) → ReadsAsCheckpoint p bytes result → (result ≡ Ok c) ⊎ (result ≡ Err NoMemory)

@@ -32,7 +32,8 @@ listed_text count numbers = if count == 0 then [] else (codes ":" ++ spaced numb
 
 -- the line of a report
 abbrev pub report_text : RegionReport → List ℕ
-report_text r = labelled (codes "report ") r.region ++ (labelled (codes " iterations ") r.iterations ++ (labelled (codes " recovered ") r.recovered_count ++ (listed_text r.recovered_count r.recovered ++ 10 ∷ [])))
+report_text r = labelled (codes "report ") r.region ++ (labelled (codes " iterations ") r.iterations ++ (labelled (codes " recovered ") r.recovered_count
+    ++ (listed_text r.recovered_count r.recovered ++ 10 ∷ [])))
 
 abbrev pub reports_text : List RegionReport → List ℕ
 reports_text reports = flat_map report_text reports

@@ -3,7 +3,7 @@
 ghost use Rattle.std.specs.Prelude.{◌≡◌, ◌≤◌, ◌<◌, ◌^◌, ℕ, length};
 ghost use Rattle.dp_text.specs.Words.{words};
 ghost use Rattle.dp_text.specs.declared.lines.Reading.TheVariants.{Refused};
-ghost use Rattle.dp_save.specs.Refused.{ReadsAs};
+ghost use Rattle.dp_save.specs.Refused.{ReadsAsCheckpoint};
 ghost use Rattle.dp_save.specs.steps.Ending.{finished as checkpoint_of};
 ghost use Rattle.dp_save.specs.steps.LineWords.{line_of};
 ghost use Rattle.dp_save.specs.steps.Reading.{is_over, next_by};
@@ -53,7 +53,7 @@ pub fn read_checkpoint(
     p: &Program,
 ) -> Result<Checkpoint, CheckpointFail>
     requires bytes { length bytes.now ≤ 33554432 }
-    ensures { ReadsAs p.now bytes.now result }
+    ensures { ReadsAsCheckpoint p.now bytes.now result }
 {
     let grammar = CheckpointGrammar { program: p };
     let reading = read_lines(alloc, &grammar, Reader::new(alloc), bytes)?;

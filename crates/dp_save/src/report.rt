@@ -110,7 +110,8 @@ fn report_from(
 
 fn report_words(text: Option<&[u8]>) -> Option<ReportWords<'_>>
     ensures { MatchOption result (spec.report_of (words_behind (option_copied text.entry)) ≡ None)
-        (λ words. spec.report_of (words_behind (option_copied text.entry)) ≡ spec.report_by words.region.now words.iterations.now words.again.now (words_behind (option_copied words.numbers))) }
+        (λ words. spec.report_of (words_behind (option_copied text.entry)) ≡ spec.report_by words.region.now words.iterations.now words.again.now
+        (words_behind (option_copied words.numbers))) }
 {
     let (region, rest) = next_word(text?);
     let (iterations_label, rest) = next_word(rest?);
@@ -140,7 +141,8 @@ pub fn read_report(alloc: Global, text: Option<&[u8]>) -> Result<Option<RegionRe
 }
 
 fn report_of(alloc: Global, words: ReportWords<'_>) -> Result<Option<RegionReport>, NoMemory>
-    ensures { IfOk result (λ report. report ≡ spec.report_by words.entry.region.now words.entry.iterations.now words.entry.again.now (words_behind (option_copied words.entry.numbers))) }
+    ensures { IfOk result (λ report. report ≡ spec.report_by words.entry.region.now words.entry.iterations.now words.entry.again.now
+        (words_behind (option_copied words.entry.numbers))) }
 {
     let listed = numbers(alloc, words.numbers)?;
     let again = counted(words.again, words.numbers);

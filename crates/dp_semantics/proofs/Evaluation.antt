@@ -1,5 +1,9 @@
 -- An evaluation and the same one in another memory: what form its value has, what it loads, and when the two agree.
-use Rattle.dp_semantics.proofs.Names.{◌≡◌, refl, ap, ◌∙◌, subst, ℕ, ◌+◌, ◌<◌, ◌≤◌, Bool, true, false, if◌then◌else◌, List, [], ◌∷◌, ◌++◌, ℤ, pos, negsuc, length, get_or, nat_lt, Option, Some, None, Result, Ok, Err, arith, ltb-true, FaultKind, binary_result, unary_result, is_zero, Expr, end_of-Expr, more_of-Expr, Program, Stmt, Stmt-F, Assign, Store, Print, If, While, Region, Break, Call, Load, WithLoads, Evaluated, just, after_loads, and_then, without_loads, place, load, first_cell, cell_count, eval, Effect, Stored, Printed, Decided, Tried, evaluated, loaded_by, inl, inr, cases_Bool}
+use Rattle.dp_semantics.proofs.Names.{◌≡◌, refl, ap, ◌∙◌, subst, ℕ, ◌+◌, ◌<◌, ◌≤◌, Bool, true, false, if◌then◌else◌, List, [], ◌∷◌, ◌++◌, ℤ, pos, negsuc}
+use Rattle.dp_semantics.proofs.Names.{length, get_or, nat_lt, Option, Some, None, Result, Ok, Err, arith, ltb-true, FaultKind, binary_result, unary_result}
+use Rattle.dp_semantics.proofs.Names.{is_zero, Expr, end_of-Expr, more_of-Expr, Program, Stmt, Stmt-F, Assign, Store, Print, If, While, Region, Break, Call}
+use Rattle.dp_semantics.proofs.Names.{Load, WithLoads, Evaluated, just, after_loads, and_then, without_loads, place, load, first_cell, cell_count, eval, Effect}
+use Rattle.dp_semantics.proofs.Names.{Stored, Printed, Decided, Tried, evaluated, loaded_by, inl, inr, cases_Bool}
 use Rattle.dp_tree.specs.declared.Expr.TheVariants as tree
 use Rattle.dp_semantics.proofs.Each.{Each, each_split, each_join}
 
@@ -50,7 +54,8 @@ module _ (Q : Load → Type 0) (cells : List ℤ) where
   unfolding Tracks
   tracks_load old c q = record { value = tt; loads = (q, tt); same = λ held. ap (one_load c) held.0 }
 
-  tracks_then : {X Y : Type 0} {P : X → Type 0} (R : Y → Type 0) (u w : Evaluated X) (f g : X → Evaluated Y) → Tracks P Q cells u w → ((x : X) → P x → Tracks R Q cells (f x) (g x)) → Tracks R Q cells (and_then u f) (and_then w g)
+  tracks_then : {X Y : Type 0} {P : X → Type 0} (R : Y → Type 0) (u w : Evaluated X) (f g : X → Evaluated Y) → Tracks P Q cells u w →
+      ((x : X) → P x → Tracks R Q cells (f x) (g x)) → Tracks R Q cells (and_then u f) (and_then w g)
   unfolding Tracks
   tracks_then {Y = Y} R (Ok x) w f g first next = by (f x.value) (next x.value first.value)
     where
@@ -58,12 +63,14 @@ module _ (Q : Load → Type 0) (cells : List ℤ) where
       by (Ok y) t = record {
         value = t.value;
         loads = each_join Q x.loads y.loads first.loads t.loads;
-        same = λ held. let s = each_split (IsHeld cells) x.loads y.loads held in ap (λ z. and_then z g) (first.same s.0) ∙ ap (after_loads x.loads) (t.same s.1);
+        same = λ held. let s = each_split (IsHeld cells) x.loads y.loads held in
+            ap (λ z. and_then z g) (first.same s.0) ∙ ap (after_loads x.loads) (t.same s.1);
       }
       by (Err fault) t = tt
   tracks_then R (Err fault) w f g first next = tt
 
-  tracks_if : {X : Type 0} (P : X → Type 0) (b : Bool) (u w f g : Evaluated X) → Tracks P Q cells u w → Tracks P Q cells f g → Tracks P Q cells (if b then u else f) (if b then w else g)
+  tracks_if : {X : Type 0} (P : X → Type 0) (b : Bool) (u w f g : Evaluated X) → Tracks P Q cells u w → Tracks P Q cells f g →
+      Tracks P Q cells (if b then u else f) (if b then w else g)
   tracks_if P true u w f g h k = h
   tracks_if P false u w f g h k = k
 
@@ -120,15 +127,18 @@ module _ (p : Program) (input old cells : List ℤ) (Q : Load → Type 0) where
   unfolding eval
   eval_tracks (tree.Number n) h = value n
   eval_tracks (tree.Input' _ (more_of-Expr e end_of-Expr)) h =
-      tracks_then Q cells Value _ _ _ _ (eval_tracks e h) (λ i any. tracks_then Q cells Value _ _ _ _ (tracks_place Q cells i (length input)) (λ k low. value _))
+      tracks_then Q cells Value _ _ _ _ (eval_tracks e h)
+      (λ i any. tracks_then Q cells Value _ _ _ _ (tracks_place Q cells i (length input)) (λ k low. value _))
   eval_tracks tree.InputLen h = value (pos (length input))
   eval_tracks (tree.Scalar x) h = tracks_load Q cells old (first_cell p x) (h.0.1 (first_cell p x) (omega arith, omega (arith, h.0.0)))
   eval_tracks (tree.Element' x _ (more_of-Expr e end_of-Expr)) h =
       tracks_then Q cells Value _ _ _ _ (eval_tracks e h.1) (λ i any. tracks_then Q cells Value _ _ _ _ (tracks_place Q cells i (cell_count p x))
       (λ k low. tracks_load Q cells old (first_cell p x + k) (h.0.1 (first_cell p x + k) (omega arith, omega (arith, low)))))
-  eval_tracks (tree.Unary' op _ (more_of-Expr e end_of-Expr)) h = tracks_then Q cells Value _ _ _ _ (eval_tracks e h) (λ x any. tracks_same Q cells (unary_result op x))
+  eval_tracks (tree.Unary' op _ (more_of-Expr e end_of-Expr)) h =
+      tracks_then Q cells Value _ _ _ _ (eval_tracks e h) (λ x any. tracks_same Q cells (unary_result op x))
   eval_tracks (tree.Binary' op _ (more_of-Expr a end_of-Expr) _ (more_of-Expr b end_of-Expr)) h =
-      tracks_then Q cells Value _ _ _ _ (eval_tracks a (split a b h).0) (λ x any. tracks_then Q cells Value _ _ _ _ (eval_tracks b (split a b h).1) (λ y other. tracks_same Q cells (binary_result op x y)))
+      tracks_then Q cells Value _ _ _ _ (eval_tracks a (split a b h).0) (λ x any. tracks_then Q cells Value _ _ _ _ (eval_tracks b (split a b h).1)
+      (λ y other. tracks_same Q cells (binary_result op x y)))
   eval_tracks (tree.And' _ (more_of-Expr a end_of-Expr) _ (more_of-Expr b end_of-Expr)) h =
       tracks_then Q cells Value _ _ _ _ (eval_tracks a (split a b h).0) (λ x any. tracks_if Q cells Value (is_zero x) _ _ _ _ (value (pos 0))
       (tracks_then Q cells Value _ _ _ _ (eval_tracks b (split a b h).1) (λ y other. value _)))
@@ -140,21 +150,27 @@ module _ (p : Program) (input old cells : List ℤ) (Q : Load → Type 0) where
       Tracks (Form p h) Q cells (and_then (eval p input old e) (λ z. just (Decided z))) (and_then (eval p input cells e) (λ z. just (Decided z)))
   decided_tracks h e form read = tracks_then Q cells (Form p h) _ _ _ _ (eval_tracks e read) (λ z any. tracks_just Q cells (Form p h) (Decided z) (form z))
 
-  head_tracks : (h : Stmt-F Stmt) → Roomy p (head_stores h) → Read (head_loads h) → Tracks (Form p h) Q cells (evaluated p input old h) (evaluated p input cells h)
+  head_tracks : (h : Stmt-F Stmt) → Roomy p (head_stores h) → Read (head_loads h) → Tracks (Form p h) Q cells (evaluated p input old h)
+      (evaluated p input cells h)
   head_tracks (Assign site x e) room read =
-      tracks_then Q cells (Form p (Assign site x e)) _ _ _ _ (eval_tracks e read) (λ z any. tracks_just Q cells (Form p (Assign site x e)) (Stored (first_cell p x) z) (omega arith, omega arith))
+      tracks_then Q cells (Form p (Assign site x e)) _ _ _ _ (eval_tracks e read) (λ z any. tracks_just Q cells (Form p (Assign site x e))
+      (Stored (first_cell p x) z) (omega arith, omega arith))
   head_tracks (Store site x index e) room read =
-      tracks_then Q cells (Form p (Store site x index e)) _ _ _ _ (eval_tracks index (split index e read).0) (λ i any. tracks_then Q cells (Form p (Store site x index e)) _ _ _ _
+      tracks_then Q cells (Form p (Store site x index e)) _ _ _ _ (eval_tracks index (split index e read).0)
+      (λ i any. tracks_then Q cells (Form p (Store site x index e)) _ _ _ _
       (eval_tracks e (split index e read).1) (λ z other. tracks_then Q cells (Form p (Store site x index e)) _ _ _ _ (tracks_place Q cells i (cell_count p x))
       (λ k low. tracks_just Q cells (Form p (Store site x index e)) (Stored (first_cell p x + k) z) (omega arith, omega (arith, low)))))
-  head_tracks (Print site e) room read = tracks_then Q cells (Form p (Print site e)) _ _ _ _ (eval_tracks e read) (λ z any. tracks_just Q cells (Form p (Print site e)) (Printed z) tt)
+  head_tracks (Print site e) room read =
+      tracks_then Q cells (Form p (Print site e)) _ _ _ _ (eval_tracks e read) (λ z any. tracks_just Q cells (Form p (Print site e)) (Printed z) tt)
   head_tracks (If site cond a b) room read = decided_tracks (If site cond a b) cond (λ z. tt) read
   head_tracks (While site cond a) room read = decided_tracks (While site cond a) cond (λ z. tt) read
   head_tracks (Region r site cond a) room read = decided_tracks (Region r site cond a) cond (λ z. tt) read
-  head_tracks (Break site cond) room read = tracks_then Q cells (Form p (Break site cond)) _ _ _ _ (eval_tracks cond read) (λ z any. tracks_just Q cells (Form p (Break site cond)) (Tried z) tt)
+  head_tracks (Break site cond) room read =
+      tracks_then Q cells (Form p (Break site cond)) _ _ _ _ (eval_tracks cond read) (λ z any. tracks_just Q cells (Form p (Break site cond)) (Tried z) tt)
   head_tracks (Call f line args) room read = tracks_fault Q cells (Form p (Call f line args)) _ _
 
   -- The evaluation of a statement's site has the statement's form and loads the variables that it names. It goes the same way in a memory where its loads hold.
-  pub evaluated_tracks : (h : Stmt-F Stmt) → Roomy p (head_stores h) → Read (head_loads h) → (v : WithLoads Effect) → evaluated p input old h ≡ Ok v → Tracked Effect (Form p h) Q cells v (evaluated p input cells h)
+  pub evaluated_tracks : (h : Stmt-F Stmt) → Roomy p (head_stores h) → Read (head_loads h) → (v : WithLoads Effect) → evaluated p input old h ≡ Ok v →
+      Tracked Effect (Form p h) Q cells v (evaluated p input cells h)
   unfolding Tracks
   evaluated_tracks h room read v e = subst (λ (u : Evaluated Effect). Tracks (Form p h) Q cells u (evaluated p input cells h)) e (head_tracks h room read)

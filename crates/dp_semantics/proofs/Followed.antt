@@ -1,5 +1,7 @@
 -- What follows a statement at the head: facts that its parts and the rest have, the rest has after a step.
-use Rattle.dp_semantics.proofs.Names.{◌∙◌, ◌≡◌, Bool, true, List, ◌∷◌, ◌++◌, ℤ, list_all, is_zero, Stmt, out-Stmt, Stmt-F, If, While, Region, Break, behind_region, behind_one, region_number, and_parts, [], ℕ, Option, Some, None, choose, followed, inl, inr, and_from, cases_Bool, list_all-append}
+use Rattle.dp_semantics.proofs.Names.{◌∙◌, ◌≡◌, Bool, true, List, ◌∷◌, ◌++◌, ℤ, list_all, is_zero, Stmt, out-Stmt, Stmt-F, If, While, Region, Break}
+use Rattle.dp_semantics.proofs.Names.{behind_region, behind_one, region_number, and_parts, [], ℕ, Option, Some, None, choose, followed, inl, inr, and_from}
+use Rattle.dp_semantics.proofs.Names.{cases_Bool, list_all-append}
 
 -- A fact of lists of statements that holds of two lists joined, and of what is behind a region.
 pub record Joins (F : List Stmt → Type 0) : Type 0 where
@@ -24,7 +26,8 @@ Parts F _ = Unit {0}
 chosen : (F : List Stmt → Type 0) (z : ℤ) (a b : List Stmt) → F a → F b → F (choose z a b)
 chosen F z a b h k = elim (cases_Bool (is_zero z)) [ inl e ↦ rw e k | inr e ↦ rw e h ]
 
-pub followed_has : (F : List Stmt → Type 0) → Joins F → (x : Stmt) (rest : List Stmt) (h : Stmt-F Stmt) (z : ℤ) → F (x ∷ rest) → F rest → Parts F h → F (followed x rest h z)
+pub followed_has : (F : List Stmt → Type 0) → Joins F → (x : Stmt) (rest : List Stmt) (h : Stmt-F Stmt) (z : ℤ) → F (x ∷ rest) → F rest → Parts F h →
+    F (followed x rest h z)
 followed_has F j x rest (If site cond a b) z here later parts = j.join (choose z a b) rest (chosen F z a b parts.0 parts.1) later
 followed_has F j x rest (While site cond a) z here later parts = chosen F z (a ++ x ∷ rest) rest (j.join a (x ∷ rest) parts here) later
 followed_has F j x rest (Region r site cond a) z here later parts = chosen F z (a ++ x ∷ rest) rest (j.join a (x ∷ rest) parts here) later

@@ -1,5 +1,9 @@
 -- What the text's definitions say of a statement, by its head.
-use Rattle.dp_semantics.proofs.Names.{opened_statement, ◌≡◌, refl, sym, ap, ◌∙◌, ℕ, Bool, true, false, not, ◌&&◌, ◌||◌, ◌==◌, List, [], ◌∷◌, ◌++◌, is_some, flat_map, list_all, SiteId, Expr, Stmt, out-Stmt, roll-Stmt, roll-out-Stmt, hidden-the_row-Stmt-0, rolls-Assign, rolls-Store, rolls-Print, rolls-If, rolls-While, rolls-Region, rolls-Break, rolls-Call, Stmt-F, Assign, Store, Print, If, While, Region, Break, Call, Program, Plan, site_of, Access, accesses, accesses_in, assumed_in, branch_of, where_reached, project, project_in, project_all, none_earlier, well_nested, well_nested_in, is_free, is_free_in}
+use Rattle.dp_semantics.proofs.Names.{opened_statement, ◌≡◌, refl, sym, ap, ◌∙◌, ℕ, Bool, true, false, not, ◌&&◌, ◌||◌, ◌==◌, List, [], ◌∷◌, ◌++◌, is_some}
+use Rattle.dp_semantics.proofs.Names.{flat_map, list_all, SiteId, Expr, Stmt, out-Stmt, roll-Stmt, roll-out-Stmt, hidden-the_row-Stmt-0, rolls-Assign}
+use Rattle.dp_semantics.proofs.Names.{rolls-Store, rolls-Print, rolls-If, rolls-While, rolls-Region, rolls-Break, rolls-Call, Stmt-F, Assign, Store, Print, If}
+use Rattle.dp_semantics.proofs.Names.{While, Region, Break, Call, Program, Plan, site_of, Access, accesses, accesses_in, assumed_in, branch_of, where_reached}
+use Rattle.dp_semantics.proofs.Names.{project, project_in, project_all, none_earlier, well_nested, well_nested_in, is_free, is_free_in}
 use Rattle.dp_tree.specs.declared.Stmt.TheVariants as tree
 use Rattle.dp_tree.proofs.Asked.{asked_hidden}
 use Rattle.dp_tree.proofs.SitesOf.{everywhere_hidden}

@@ -1,8 +1,12 @@
 -- What the proof assumes of a program and a plan, and what it knows of the source's stores.
-use Rattle.dp_semantics.proofs.Names.{◌≡◌, ℕ, suc, ◌<◌, Bool, true, false, List, [], ◌∷◌, ◌++◌, ℤ, length, Some, list_any, SiteId, Expr, Stmt, out-Stmt, Stmt-F, Region, Program, Plan, cell_count, Stored, start_cells, Access, stage_of, pos, get_or, Ok, Load, WithLoads, Effect, evaluated, site_of, stores_var, first_site, is_replicated, is_body_local, region_statement, region_accesses, Past, is_local_at, Epoch, last, or_parts}
+use Rattle.dp_semantics.proofs.Names.{◌≡◌, ℕ, suc, ◌<◌, Bool, true, false, List, [], ◌∷◌, ◌++◌, ℤ, length, Some, list_any, SiteId, Expr, Stmt, out-Stmt, Stmt-F}
+use Rattle.dp_semantics.proofs.Names.{Region, Program, Plan, cell_count, Stored, start_cells, Access, stage_of, pos, get_or, Ok, Load, WithLoads, Effect}
+use Rattle.dp_semantics.proofs.Names.{evaluated, site_of, stores_var, first_site, is_replicated, is_body_local, region_statement, region_accesses, Past}
+use Rattle.dp_semantics.proofs.Names.{is_local_at, Epoch, last, or_parts}
 pub use Rattle.dp_semantics.proofs.Each.{Each, each_both, each_map, each_split, all_of, each_join, none_of, all_make, none_make}
 pub use Rattle.dp_semantics.proofs.Evaluation.{head_stores, InVar, Form, Holds, Readable, IsHeld, head_loads, Tracked, evaluated_tracks, Roomy}
-pub use Rattle.dp_semantics.proofs.Heads.{accesses_all, all_well, well_at, project_at, project_out, head_access, inside, accesses_at, accesses_out, well_out, if_rule, all_free, free_at, free_out, well_hidden}
+pub use Rattle.dp_semantics.proofs.Heads.{accesses_all, all_well, well_at, project_at, project_out, head_access, inside, accesses_at, accesses_out, well_out}
+pub use Rattle.dp_semantics.proofs.Heads.{if_rule, all_free, free_at, free_out, well_hidden}
 pub use Rattle.dp_semantics.proofs.Ways.{Goes, stays, goes, event_of, Before, fresh_start, went_on, Here, here_next, Apart}
 use Rattle.dp_tree.specs.declared.Stmt.TheVariants as tree
 use Rattle.dp_plan.specs.IsFar.{is_far}
@@ -14,8 +18,11 @@ Listed all a = (test : Access → Bool) → list_any test all ≡ false → test
 
 pub listed_all : (all : List Access) → Each (Listed all) all
 listed_all [] = tt
-listed_all (a ∷ rest) =
-    (λ test e. (or_parts (test a) (list_any test rest) e).0, each_map (Listed rest) (Listed (a ∷ rest)) (λ b h test e. h test (or_parts (test a) (list_any test rest) e).1) rest (listed_all rest))
+listed_all (a ∷ rest) = (
+  λ test e. (or_parts (test a) (list_any test rest) e).0,
+  each_map (Listed rest) (Listed (a ∷ rest)) (λ b h test e. h test
+      (or_parts (test a) (list_any test rest) e).1) rest (listed_all rest),
+)
 
 -- the number of cells
 abbrev pub size : Program → ℕ
@@ -85,7 +92,8 @@ ClearSame p plan one cells h = Each (λ y. Clear p plan (site_of h).0 y → (c :
 
 -- What a site loads is no cell that a site that lies apart from it stored.
 abbrev pub NeverMet : (p : Program) (plan : Plan) → Accepted p plan → List ℤ → Type 0
-NeverMet p plan a input = (i : ℕ) (x : Stmt) (rest : List Stmt) (earlier : List Past) (cells : List ℤ) → Here p input plan.region (turn_of a) i (x ∷ rest) earlier cells → (one : List ℤ) (w : WithLoads Effect) → evaluated p input one (out-Stmt x) ≡ Ok w →
+NeverMet p plan a input = (i : ℕ) (x : Stmt) (rest : List Stmt) (earlier : List Past) (cells : List ℤ) →
+    Here p input plan.region (turn_of a) i (x ∷ rest) earlier cells → (one : List ℤ) (w : WithLoads Effect) → evaluated p input one (out-Stmt x) ≡ Ok w →
     ClearSame p plan one cells (out-Stmt x) → Each (λ (l : Load). Each (NotInto p plan.region (site_of (out-Stmt x)).0 i l.cell) earlier) w.loads
 
 -- an epoch of such a program and plan

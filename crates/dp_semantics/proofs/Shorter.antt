@@ -1,5 +1,8 @@
 -- What is left of a stage's words is shorter than what was there, and each event makes a word.
-use Rattle.dp_semantics.proofs.Names.{◌≡◌, ap, ◌∙◌, arith, length-append, ℕ, zero, suc, ◌-◌, ◌<◌, ◌≤◌, if◌then◌else◌, List, [], ◌∷◌, length, Option, Some, None, Ok, Err, sum_by, slice_set, get_or, get_or_past, sum_by-set, cases_lt, inl, inr, cases_Bool, sym, Word, Stmt, Stmt-F, Program, Plan, Event, Effect, site_of, effect_by, words_of, is_checked, load_words, done_word, after_loads_of, is_load_of, is_done_of, Taken, taken_from, word_list}
+use Rattle.dp_semantics.proofs.Names.{◌≡◌, ap, ◌∙◌, arith, length-append, ℕ, zero, suc, ◌-◌, ◌<◌, ◌≤◌, if◌then◌else◌, List, [], ◌∷◌, length, Option, Some, None}
+use Rattle.dp_semantics.proofs.Names.{Ok, Err, sum_by, slice_set, get_or, get_or_past, sum_by-set, cases_lt, inl, inr, cases_Bool, sym, Word, Stmt, Stmt-F}
+use Rattle.dp_semantics.proofs.Names.{Program, Plan, Event, Effect, site_of, effect_by, words_of, is_checked, load_words, done_word, after_loads_of, is_load_of}
+use Rattle.dp_semantics.proofs.Names.{is_done_of, Taken, taken_from, word_list}
 use Rattle.dp_semantics.specs.Words.{Astray, done_from, taken_by}
 use Rattle.dp_semantics.proofs.Taking.{word_list_is}
 
@@ -27,7 +30,8 @@ taken_shorter p head words t e =
     let b = loads_shorter (site_of head).0 words in
     omega (arith, a, b)
 
-pub lists_shorter : (lists : List (List Word)) (t : ℕ) (rest : List Word) → length rest < length (word_list lists t) → sum_by length (slice_set lists (t - 1) rest) < sum_by length lists
+pub lists_shorter : (lists : List (List Word)) (t : ℕ) (rest : List Word) → length rest < length (word_list lists t) →
+    sum_by length (slice_set lists (t - 1) rest) < sum_by length lists
 lists_shorter lists zero rest h = absurd (omega (arith, h))
 lists_shorter lists (suc t) rest h =
     let e : suc t - 1 ≡ t = omega arith in
@@ -41,4 +45,5 @@ lists_shorter lists (suc t) rest h =
     ]
 
 pub some_word : (p : Program) (plan : Plan) (event : Event) → 0 < length (words_of p plan event)
-some_word p plan event = omega (arith, length-append (if is_checked p plan event.site then load_words event.site event.loads else []) (done_word event.site event.effect ∷ []))
+some_word p plan event =
+    omega (arith, length-append (if is_checked p plan event.site then load_words event.site event.loads else []) (done_word event.site event.effect ∷ []))

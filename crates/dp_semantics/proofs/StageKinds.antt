@@ -1,5 +1,7 @@
 -- The kinds of the stages of a plan that fits its program.
-use Rattle.dp_semantics.proofs.Names.{◌≡◌, inl, inr, refl, ap, ℕ, zero, suc, ◌+◌, true, false, not, length, arith, slice_get_past, cases_lt, both_ways, not-true, list_all, Program, Plan, is_par, is_replicated, region_statement, region_accesses, numbers_from, cells_in_order, access_known, one_region, region_alone, kinds_apart, kinds_fit, fits_plan, and_parts, and-true}
+use Rattle.dp_semantics.proofs.Names.{◌≡◌, inl, inr, refl, ap, ℕ, zero, suc, ◌+◌, true, false, not, length, arith, slice_get_past, cases_lt, both_ways}
+use Rattle.dp_semantics.proofs.Names.{not-true, list_all, Program, Plan, is_par, is_replicated, region_statement, region_accesses, numbers_from, cells_in_order}
+use Rattle.dp_semantics.proofs.Names.{access_known, one_region, region_alone, kinds_apart, kinds_fit, fits_plan, and_parts, and-true}
 use Rattle.dp_semantics.proofs.Counts.{all_count}
 
 -- the first stage is sequential, and no stage next to a replicated one is replicated

@@ -52,7 +52,8 @@ kept_at key (suc n) = next_kept key.program key.plan (judgement_of key n) (kept_
 -- the cause that the walk finds in that iteration, within the steps that are left
 abbrev pub found_in : EpochKey → ℕ → Option Cause
 found_in key n =
-    cause_walk key.program key.plan key.input (key.fuel - (state_at key n).steps) (watch_of key.plan (kept_at key n)) (turn_text key.program key.plan) (state_at key n).cells
+    cause_walk key.program key.plan key.input (key.fuel - (state_at key n).steps) (watch_of key.plan (kept_at key n)) (turn_text key.program key.plan)
+    (state_at key n).cells
 
 -- an epoch begins with as many cells as the program has, and with the body locals at 0
 pub record IsSound (key : EpochKey) : Type 0 where
@@ -61,5 +62,6 @@ pub record IsSound (key : EpochKey) : Type 0 where
 
 -- In such an epoch, where the first verdict that isn't to go on is Unclean, the walk finds the cause that it is to tell.
 abbrev pub FindsInEpochs : Program → Plan → Type 0
-FindsInEpochs p plan = (key : EpochKey) → key.program ≡ p → key.plan ≡ plan → IsSound key → (n : ℕ) → ((m : ℕ) → m < n → goes_on (verdict_at key m) ≡ true) → judgement_of key n ≡ Unclean →
+FindsInEpochs p plan = (key : EpochKey) → key.program ≡ p → key.plan ≡ plan → IsSound key → (n : ℕ) → ((m : ℕ) → m < n → goes_on (verdict_at key m) ≡ true) →
+    judgement_of key n ≡ Unclean →
     found_in key n ≡ Some (cause_since key.program key.plan (epoch_run key) 0 n)

@@ -23,7 +23,8 @@ judgement_in key n s = judge key.program key.plan (key.fuel - s.steps) s.cells (
 
 -- where the judging stands after it
 abbrev pub after_judgement : EpochKey → JudgeState → Judgement → JudgeState
-after_judgement key s (Clean agreed) = record { cells = clear_locals key.plan.region key.program.vars (applied agreed.effects s.cells); steps = s.steps + length agreed.effects }
+after_judgement key s (Clean agreed) =
+    record { cells = clear_locals key.plan.region key.program.vars (applied agreed.effects s.cells); steps = s.steps + length agreed.effects }
 after_judgement key s Unclean = s
 
 -- .. before the epoch's n-th iteration

@@ -44,5 +44,6 @@ pub record FoundAt (p : Program) (plan : Plan) (input : List ℤ) (run : Run) (e
 
 -- So it is in each run that begins within `main`.
 abbrev pub FindsCauses : Program → Plan → Type 0
-FindsCauses p plan = (input : List ℤ) (fuel : ℕ) (c : Config) → StandsInMain p c → (e i k : ℕ) → e ≤ i → start (run_of p input fuel c) plan.region i ≡ Some k → CleanSince p plan (run_of p input fuel c) e i →
+FindsCauses p plan = (input : List ℤ) (fuel : ℕ) (c : Config) → StandsInMain p c → (e i k : ℕ) → e ≤ i → start (run_of p input fuel c) plan.region i ≡ Some k →
+    CleanSince p plan (run_of p input fuel c) e i →
     FoundAt p plan input (run_of p input fuel c) e i k

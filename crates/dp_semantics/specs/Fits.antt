@@ -34,14 +34,14 @@ access_known p plan a =
     list_all (has_cell p) a.loads && (stores_known p a.stores && (nat_lt 0 (stage_of p plan a.site) && nat_le (stage_of p plan a.site) (length plan.stages)))
 
 -- the site isn't the condition
-abbrev pub is_inner : Program → Plan → Access → Bool
-is_inner p plan a = not (a.site == first_site p plan)
+abbrev pub is_inner_access : Program → Plan → Access → Bool
+is_inner_access p plan a = not (a.site == first_site p plan)
 
 -- the region's condition is its first site, alone with that number, and of stage 1, and its body is well nested
 abbrev pub region_fits : Program → Plan → Stmt-F Stmt → Bool
 region_fits p plan (Region q site cond body) =
     (q == plan.region) && ((first_site p plan == site.0) && ((stage_of p plan (first_site p plan) == 1)
-    && (list_all (well_nested p plan) body && list_all (is_inner p plan) (flat_map accesses body))))
+    && (list_all (well_nested p plan) body && list_all (is_inner_access p plan) (flat_map accesses body))))
 region_fits p plan _ = false
 
 -- the region stands once among the statements of `main`

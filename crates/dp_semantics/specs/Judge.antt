@@ -37,7 +37,8 @@ loads_hold site cells (w ∷ rest) =
 
 -- the judging after the words of the statement at the head
 abbrev pub judged : Program → Plan → Judging → Stmt → List Stmt → Stmt-F Stmt → Taken → Judging
-judged p plan c x rest head w = record { turn = consumed p plan c.turn x rest head w; effects = c.effects ++ w.effect ∷ []; sites = c.sites ++ (site_of head).0 ∷ [] }
+judged p plan c x rest head w =
+    record { turn = consumed p plan c.turn x rest head w; effects = c.effects ++ w.effect ∷ []; sites = c.sites ++ (site_of head).0 ∷ [] }
 
 -- it goes on where the loads hold, the words are the site's, and what they say goes as assumed
 abbrev pub judged_by : Program → Plan → Judging → Stmt → List Stmt → Stmt-F Stmt → Bool → Result Taken Void → Option Judging

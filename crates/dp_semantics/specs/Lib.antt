@@ -21,7 +21,6 @@ pub mod FarPairs
 pub mod Reported
 pub mod EpochKey
 pub mod EpochVerdicts
-pub mod Items
 pub mod FindsCauses
 pub mod EpochCauses
 pub mod Resumed

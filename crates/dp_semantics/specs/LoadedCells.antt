@@ -15,5 +15,6 @@ loaded_cells loads = map (λ l. l.cell) loads
 
 -- In each run, an event's loads are those of its cells from the memory before the step.
 abbrev pub CellsTellLoads : Program → Type 0
-CellsTellLoads p = (input : List ℤ) (fuel k : ℕ) (c before : Config) (event : Event) → slice_get (run_of p input fuel c).configs k ≡ Some before → slice_get (run_of p input fuel c).trace k ≡ Some event →
+CellsTellLoads p = (input : List ℤ) (fuel k : ℕ) (c before : Config) (event : Event) → slice_get (run_of p input fuel c).configs k ≡ Some before →
+    slice_get (run_of p input fuel c).trace k ≡ Some event →
     event.loads ≡ map (load_from before.cells) (loaded_cells event.loads)

@@ -15,7 +15,8 @@ none_earlier p plan site inside = list_all (λ a. nat_le (stage_of p plan site) 
 
 -- an inner `while` stands in no later stage than a site inside it, nor does an `if` that isn't assumed; a region and a call stand nowhere inside
 abbrev pub nests_at : Program → Plan → Stmt → Bool
-nests_at p plan (If' site cond _ then_part _ else_part) = is_some (assumed_in plan.assume site.0) || none_earlier p plan site.0 (accesses_in then_part ++ accesses_in else_part)
+nests_at p plan (If' site cond _ then_part _ else_part) =
+    is_some (assumed_in plan.assume site.0) || none_earlier p plan site.0 (accesses_in then_part ++ accesses_in else_part)
 nests_at p plan (While' site cond _ body) = none_earlier p plan site.0 (accesses_in body)
 nests_at p plan (Region' r site cond _ body) = false
 nests_at p plan (Call f line args) = false

@@ -15,6 +15,17 @@ sites_between (Some info) = suc info.last.0 - info.first.0
 abbrev pub site_count : Program → ℕ → ℕ
 site_count p r = sites_between (slice_get p.regions (r - 1))
 
--- all sites of region r in one sequential stage, with room for as many words as a plan may allow, nothing assumed and nothing checked, in the version of the plans that the program makes
+-- all sites of region r in one sequential stage, with room for as many words as a plan may allow, nothing assumed and nothing checked, in the version of the
+-- plans that the program makes
 abbrev pub one_stage_plan : Program → ℕ → Plan
-one_stage_plan p r = record { region = r; words = MOST_WORDS; stages = Seq ∷ []; stage_of = replicate (site_count p r) 1; assume = []; proved = true; checked_at = replicate (site_count p r) false }
+one_stage_plan p r =
+    record {
+      region = r;
+      words = MOST_WORDS;
+      stages = Seq ∷ [];
+      stage_of = replicate (site_count p
+          r) 1;
+      assume = [];
+      proved = true;
+      checked_at = replicate (site_count p r) false;
+    }

@@ -19,7 +19,8 @@ BeginsThere p plan = (begins : ℕ → Bool) (run : Run) (m : ℕ) → begins m 
 
 -- Each iteration that starts is judged rightly in its own epoch, whichever iterations begin one in any case.
 abbrev pub JudgesResumed : Program → Plan → Type 0
-JudgesResumed p plan = (begins : ℕ → Bool) (input : List ℤ) (fuel : ℕ) (c : Config) → StandsInMain p c → (i k : ℕ) → start (run_of p input fuel c) plan.region i ≡ Some k →
+JudgesResumed p plan = (begins : ℕ → Bool) (input : List ℤ) (fuel : ℕ) (c : Config) → StandsInMain p c → (i k : ℕ) →
+    start (run_of p input fuel c) plan.region i ≡ Some k →
     Judged p plan input (run_of p input fuel c) (epoch_with begins p plan (run_of p input fuel c) i) i k
 
 -- the first n iterations of a run have the same epochs, causes and report as those of the other
@@ -39,15 +40,18 @@ pub record SameReport (begins : ℕ → Bool) (p : Program) (plan : Plan) (run o
   pub report : region_report_with begins p plan run ≡ region_report_with begins p plan own
 
 abbrev pub RegionReportsAlone : Program → Plan → Type 0
-RegionReportsAlone p plan = (begins : ℕ → Bool) (input : List ℤ) (fuel k : ℕ) (c d : Config) → slice_get (run_of p input fuel c).configs k ≡ Some d → start (run_of p input fuel c) plan.region 0 ≡ Some k →
+RegionReportsAlone p plan = (begins : ℕ → Bool) (input : List ℤ) (fuel k : ℕ) (c d : Config) → slice_get (run_of p input fuel c).configs k ≡ Some d →
+    start (run_of p input fuel c) plan.region 0 ≡ Some k →
     SameReport begins p plan (run_of p input fuel c) (run_of p input (fuel - k) d)
 
 -- The report of the first m iterations is gone on with by that of the rest, after any number of its iterations and in all.
 pub record ReportGoesOn (begins : ℕ → Bool) (p : Program) (plan : Plan) (m : ℕ) (run rest : Run) : Type 0 where
-  pub first : (n : ℕ) → report_first_with begins p plan run (m + n) ≡ gone_on (report_first_with begins p plan run m) (report_first_with (from_there m begins) p plan rest n)
+  pub first : (n : ℕ) → report_first_with begins p plan run (m + n) ≡ gone_on (report_first_with begins p plan run m)
+      (report_first_with (from_there m begins) p plan rest n)
   pub whole : region_report_with begins p plan run ≡ gone_on (report_first_with begins p plan run m) (region_report_with (from_there m begins) p plan rest)
 
 -- So it is where an epoch begins at iteration m.
 abbrev pub ReportsGoOn : Program → Plan → Type 0
-ReportsGoOn p plan = (begins : ℕ → Bool) (m k : ℕ) (run rest : Run) → GoesOnAs plan.region m k run rest → is_some (start rest plan.region 0) ≡ true → epoch_with begins p plan run m ≡ m →
+ReportsGoOn p plan = (begins : ℕ → Bool) (m k : ℕ) (run rest : Run) → GoesOnAs plan.region m k run rest → is_some (start rest plan.region 0) ≡ true →
+    epoch_with begins p plan run m ≡ m →
     ReportGoesOn begins p plan m run rest

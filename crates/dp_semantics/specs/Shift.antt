@@ -27,15 +27,19 @@ pub record SameEpochs (begins : ℕ → Bool) (p : Program) (plan : Plan) (m : �
   pub epochs : (i : ℕ) → epoch_with begins p plan run (m + i) ≡ m + epoch_with (from_there m begins) p plan rest i
   pub again : (i : ℕ) → is_recovered_with begins p plan run (m + i) ≡ is_recovered_with (from_there m begins) p plan rest i
   pub cause : (i : ℕ) → cause_with begins p plan run (m + i) ≡ cause_with (from_there m begins) p plan rest i
-  pub listed_first : (n : ℕ) → recovered_first_with begins p plan run (m + n) ≡ recovered_first_with begins p plan run m ++ map (λ i. m + i) (recovered_first_with (from_there m begins) p plan rest n)
-  pub listed : recovered_with begins p plan run ≡ recovered_first_with begins p plan run m ++ map (λ i. m + i) (recovered_with (from_there m begins) p plan rest)
+  pub listed_first : (n : ℕ) → recovered_first_with begins p plan run (m + n) ≡ recovered_first_with begins p plan run m
+      ++ map (λ i. m + i) (recovered_first_with (from_there m begins) p plan rest n)
+  pub listed : recovered_with begins p plan run ≡ recovered_first_with begins p plan run m
+      ++ map (λ i. m + i) (recovered_with (from_there m begins) p plan rest)
 
 -- So it is for each run that reaches the region and goes on so.
 abbrev pub VerdictsShift : Program → Plan → Type 0
-VerdictsShift p plan = (m k : ℕ) (run rest : Run) → GoesOnAs plan.region m k run rest → is_some (start rest plan.region 0) ≡ true → SameVerdicts p plan m k run rest
+VerdictsShift p plan = (m k : ℕ) (run rest : Run) → GoesOnAs plan.region m k run rest → is_some (start rest plan.region 0) ≡ true →
+    SameVerdicts p plan m k run rest
 
 abbrev pub EpochsShift : Program → Plan → Type 0
-EpochsShift p plan = (m k : ℕ) (run rest : Run) → GoesOnAs plan.region m k run rest → is_some (start rest plan.region 0) ≡ true → (begins : ℕ → Bool) → epoch_with begins p plan run m ≡ m → SameEpochs begins p plan m run rest
+EpochsShift p plan = (m k : ℕ) (run rest : Run) → GoesOnAs plan.region m k run rest → is_some (start rest plan.region 0) ≡ true → (begins : ℕ → Bool) →
+    epoch_with begins p plan run m ≡ m → SameEpochs begins p plan m run rest
 
 -- The region's own run, from where its first iteration starts after k steps, has all that is said of its iterations.
 pub record SameRegion (p : Program) (plan : Plan) (k : ℕ) (run own : Run) : Type 0 where
@@ -60,5 +64,6 @@ pub record SameRegion (p : Program) (plan : Plan) (k : ℕ) (run own : Run) : Ty
 
 -- So it is in each run that reaches the region.
 abbrev pub RegionRunsAlone : Program → Plan → Type 0
-RegionRunsAlone p plan = (input : List ℤ) (fuel k : ℕ) (c d : Config) → slice_get (run_of p input fuel c).configs k ≡ Some d → start (run_of p input fuel c) plan.region 0 ≡ Some k →
+RegionRunsAlone p plan = (input : List ℤ) (fuel k : ℕ) (c d : Config) → slice_get (run_of p input fuel c).configs k ≡ Some d →
+    start (run_of p input fuel c) plan.region 0 ≡ Some k →
     SameRegion p plan k (run_of p input fuel c) (run_of p input (fuel - k) d)

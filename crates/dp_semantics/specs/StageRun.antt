@@ -1,5 +1,6 @@
 -- One turn of a stage: it evaluates its own sites, and follows the earlier stages' words at theirs.
-use Rattle.std.specs.Prelude.{ℕ, if◌then◌else◌, zero, suc, ◌+◌, ◌-◌, ◌==◌, Bool, false, ◌&&◌, ◌||◌, List, [], ◌∷◌, ◌++◌, length, ℤ, Result, Ok, Err, slice_set, nat_le, sum_by}
+use Rattle.std.specs.Prelude.{ℕ, if◌then◌else◌, zero, suc, ◌+◌, ◌-◌, ◌==◌, Bool, false, ◌&&◌, ◌||◌, List, [], ◌∷◌, ◌++◌, length, ℤ, Result, Ok, Err, slice_set}
+use Rattle.std.specs.Prelude.{nat_le, sum_by}
 use Rattle.dp_base.specs.declared.Word.{Word}
 use Rattle.dp_base.specs.Arithmetic.{is_zero}
 use Rattle.dp_tree.specs.declared.Stmt.{Stmt, out-Stmt}
@@ -13,7 +14,8 @@ use Rattle.dp_plan.specs.Access.{stage_of, first_site, region_statement}
 use Rattle.dp_semantics.specs.Project.{project_all}
 use Rattle.dp_semantics.specs.Words.{Void, Faults, Full, Taken, words_of, taken_from, word_list}
 
--- the statements still to do, the memory, the words left of each earlier stage, the stage's own words, and whether the region's condition was 0 or a break was taken
+-- the statements still to do, the memory, the words left of each earlier stage, the stage's own words, and whether the region's condition was 0 or a break was
+-- taken
 pub record Turn : Type 0 where
   pub to_do : List Stmt
   pub cells : List ℤ

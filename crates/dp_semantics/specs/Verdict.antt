@@ -1,5 +1,6 @@
 -- The central theorem: the judgement is the source's. It is Clean exactly at the clean iterations, with what the source did.
-use Rattle.std.specs.Prelude.{◌≡◌, ℕ, suc, ◌+◌, ◌-◌, ◌<◌, ◌≤◌, ◌==◌, Bool, true, false, List, [], ◌∷◌, ℤ, length, drop, map, filter, Option, Some, None, slice_get}
+use Rattle.std.specs.Prelude.{◌≡◌, ℕ, suc, ◌+◌, ◌-◌, ◌<◌, ◌≤◌, ◌==◌, Bool, true, false, List, [], ◌∷◌, ℤ, length, drop, map, filter, Option, Some, None}
+use Rattle.std.specs.Prelude.{slice_get}
 use Rattle.std.specs.List.{flat_map}
 use Rattle.dp_base.specs.declared.Word.{Word}
 use Rattle.dp_tree.specs.declared.Program.{Program}
@@ -42,7 +43,8 @@ site_in event = event.site
 
 -- what the source does in iteration i
 abbrev pub done_in : Plan → Run → ℕ → Agreed
-done_in plan run i = record { effects = map effect_in (iteration run plan.region i); sites = map site_in (iteration run plan.region i); closing = is_closing run plan.region i }
+done_in plan run i =
+    record { effects = map effect_in (iteration run plan.region i); sites = map site_in (iteration run plan.region i); closing = is_closing run plan.region i }
 
 -- the words of the events at the sites of stage t
 abbrev pub words_at_stage : Program → Plan → List Event → ℕ → List Word
@@ -65,7 +67,8 @@ status_when false = Going
 -- The packet of a clean iteration isn't void, has the words of the source's events, and is judged Clean with what the source did.
 pub record SentClean (p : Program) (plan : Plan) (input : List ℤ) (run : Run) (e i k : ℕ) : Type 0 where
   pub status : (packet_at p plan input run e i).status ≡ status_when (is_closing run plan.region i)
-  pub words : (t : ℕ) → 0 < t → t ≤ length plan.stages → word_list (packet_at p plan input run e i).lists t ≡ words_at_stage p plan (iteration run plan.region i) t
+  pub words : (t : ℕ) → 0 < t → t ≤ length plan.stages → word_list (packet_at p plan input run e i).lists t ≡ words_at_stage p plan
+      (iteration run plan.region i) t
   pub judged : judgement_at p plan input run e i k ≡ Clean (done_in plan run i)
 
 -- Where the iteration is clean, its packet is judged so, and where its packet is judged Clean, the iteration is clean.
@@ -75,7 +78,8 @@ pub record Judged (p : Program) (plan : Plan) (input : List ℤ) (run : Run) (e 
 
 -- In a run that begins within `main`, and in an epoch whose iterations so far are clean, the next one that starts is judged rightly.
 abbrev pub JudgesRightly : Program → Plan → Type 0
-JudgesRightly p plan = (input : List ℤ) (fuel : ℕ) (c : Config) → StandsInMain p c → (e i k : ℕ) → e ≤ i → start (run_of p input fuel c) plan.region i ≡ Some k → CleanSince p plan (run_of p input fuel c) e i →
+JudgesRightly p plan = (input : List ℤ) (fuel : ℕ) (c : Config) → StandsInMain p c → (e i k : ℕ) → e ≤ i →
+    start (run_of p input fuel c) plan.region i ≡ Some k → CleanSince p plan (run_of p input fuel c) e i →
     Judged p plan input (run_of p input fuel c) e i k
 
 -- So each iteration that starts is judged rightly in its own epoch.
@@ -106,12 +110,14 @@ pub record Follows (p : Program) (r : ℕ) (run : Run) (i k : ℕ) : Type 0 wher
 pub record Closes (p : Program) (r : ℕ) (run : Run) (i k : ℕ) : Type 0 where
   pub unreached : start run r (suc i) ≡ None
   pub memory : memory_after run r (suc i) ≡ (standing p (drop 1 (to_do_after run k)) (clear_locals r p.vars (memory_of run r i))).cells
-  pub config : slice_get run.configs (k + length (iteration run r i)) ≡ Some (standing p (drop 1 (to_do_after run k)) (clear_locals r p.vars (memory_of run r i)))
+  pub config : slice_get run.configs (k + length (iteration run r i)) ≡ Some
+      (standing p (drop 1 (to_do_after run k)) (clear_locals r p.vars (memory_of run r i)))
 
 -- After an iteration that ended and didn't close, the next one follows.
 abbrev pub StoresLead : Program → Plan → Type 0
 StoresLead p plan = (input : List ℤ) (fuel : ℕ) (c : Config) → StandsInMain p c → (i k : ℕ) → start (run_of p input fuel c) plan.region i ≡ Some k →
-    has_ended (run_of p input fuel c) plan.region i ≡ true → is_closing (run_of p input fuel c) plan.region i ≡ false → Follows p plan.region (run_of p input fuel c) i k
+    has_ended (run_of p input fuel c) plan.region i ≡ true → is_closing (run_of p input fuel c) plan.region i ≡ false →
+    Follows p plan.region (run_of p input fuel c) i k
 
 -- After a closing one the run goes on behind the region.
 abbrev pub ClosingLeaves : Program → Plan → Type 0

@@ -31,7 +31,8 @@ Aligned (a ∷ xs) [] us = ⊥
 Aligned (a ∷ xs) (t ∷ ts) [] = ⊥
 Aligned (a ∷ xs) (t ∷ ts) (u ∷ us) = Same a t u × Aligned xs ts us
 
-pub aligned-append : (xs bs : List Access) (ts qs : List SiteTouch) (us ws : List Part) → Aligned xs ts us → Aligned bs qs ws → Aligned (xs ++ bs) (ts ++ qs) (us ++ ws)
+pub aligned-append : (xs bs : List Access) (ts qs : List SiteTouch) (us ws : List Part) → Aligned xs ts us → Aligned bs qs ws →
+    Aligned (xs ++ bs) (ts ++ qs) (us ++ ws)
 aligned-append [] bs [] qs [] ws h k = k
 aligned-append [] bs [] qs (u ∷ us) ws h k = absurd h
 aligned-append [] bs (t ∷ ts) qs us ws h k = absurd h
@@ -58,7 +59,8 @@ module _ (f : ℕ → Bool) where
   loads_same expr.InputLen = refl
   loads_same (expr.Scalar x) = refl
   loads_same (expr.Element' x _ (more_of-Expr e end_of-Expr)) =
-      ap (λ (b : Bool). f x.0 || b) (loads_same e) ∙ or_swap (f x.0) (list_any g (reads e)) ∙ sym (list_any-append g (reads e) (record { variable = x.0; index = Some e } ∷ []))
+      ap (λ (b : Bool). f x.0 || b) (loads_same e) ∙ or_swap (f x.0) (list_any g (reads e))
+      ∙ sym (list_any-append g (reads e) (record { variable = x.0; index = Some e } ∷ []))
   loads_same (expr.Unary' op _ (more_of-Expr e end_of-Expr)) = loads_same e
   loads_same (expr.Binary' op _ (more_of-Expr a end_of-Expr) _ (more_of-Expr b end_of-Expr)) =
       list_any-append f (loaded_by a) (loaded_by b) ∙ or_both _ _ _ _ (loads_same a) (loads_same b) ∙ sym (list_any-append g (reads a) (reads b))
@@ -77,13 +79,16 @@ mutual
   aligned until (tree.Print site e) = (record { site = refl; part_is = refl; stores = refl; loads = λ f. loads_same f e }, tt)
   aligned until (tree.If' site cond _ a _ b) = (
     record { site = refl; part_is = refl; stores = refl; loads = λ f. loads_same f cond },
-    aligned-append (accesses_in a) (accesses_in b) (touches_in a) (touches_in b) (parts_in until a) (parts_in until b) (aligned_in until a) (aligned_in until b),
+    aligned-append (accesses_in a) (accesses_in b) (touches_in a) (touches_in b) (parts_in until a) (parts_in until b) (aligned_in until a)
+        (aligned_in until b),
   )
-  aligned until (tree.While' site cond h a) = (record { site = refl; part_is = refl; stores = refl; loads = λ f. loads_same f cond }, aligned_in (until_in until (tree.While' site cond h a)) a)
+  aligned until (tree.While' site cond h a) =
+      (record { site = refl; part_is = refl; stores = refl; loads = λ f. loads_same f cond }, aligned_in (until_in until (tree.While' site cond h a)) a)
   aligned until (tree.Region' r site cond _ a) = (record { site = refl; part_is = refl; stores = refl; loads = λ f. loads_same f cond }, aligned_in until a)
   aligned until (tree.Break site cond) = (record { site = refl; part_is = refl; stores = refl; loads = λ f. loads_same f cond }, tt)
   aligned until (tree.Call f line args) = tt
 
   pub aligned_in : {n : _} (until : Option ℕ) (row : Row_of-Stmt n) → Aligned (accesses_in row) (touches_in row) (parts_in until row)
   aligned_in until end_of-Stmt = tt
-  aligned_in until (more_of-Stmt x rest) = aligned-append (accesses x) (accesses_in rest) (touches x) (touches_in rest) (parts until x) (parts_in until rest) (aligned until x) (aligned_in until rest)
+  aligned_in until (more_of-Stmt x rest) = aligned-append (accesses x) (accesses_in rest) (touches x) (touches_in rest) (parts until x) (parts_in until rest)
+      (aligned until x) (aligned_in until rest)

@@ -24,7 +24,8 @@ any_never [] = refl
 any_never (x ∷ xs) = any_never xs
 
 -- some x with some y, or some y with some x
-any_turned : {X Y : Type 0} (test : X → Y → Bool) (xs : List X) (ys : List Y) → list_any (λ (x : X). list_any (test x) ys) xs ≡ list_any (λ (y : Y). list_any (λ (x : X). test x y) xs) ys
+any_turned : {X Y : Type 0} (test : X → Y → Bool) (xs : List X) (ys : List Y) → list_any (λ (x : X). list_any (test x) ys) xs ≡ list_any
+    (λ (y : Y). list_any (λ (x : X). test x y) xs) ys
 any_turned test [] ys = sym (any_never ys)
 any_turned test (x ∷ xs) ys =
     ap (λ (b : Bool). list_any (test x) ys || b) (any_turned test xs ys)
@@ -57,13 +58,15 @@ module _ (p : Program) (plan : Plan) (site : ℕ) where
   stores_found : (u : Access) → list_any is_of (compared_with p plan all u) ≡ ((u.site == site) && list_any (differs_for p plan u.site u.loads) all)
   stores_found u =
       any_flat is_of (compared_for p plan u) all
-      ∙ any_same (λ (d : Access). list_any is_of (compared_for p plan u d)) (λ (d : Access). (u.site == site) && differs_for p plan u.site u.loads d) all (λ d. pair_found (differs_for p plan u.site u.loads d) u.site d.site)
+      ∙ any_same (λ (d : Access). list_any is_of (compared_for p plan u d)) (λ (d : Access). (u.site == site) && differs_for p plan u.site u.loads d) all
+      (λ d. pair_found (differs_for p plan u.site u.loads d) u.site d.site)
       ∙ and_any (u.site == site) (differs_for p plan u.site u.loads) all
 
   loads_differ : (n : ℕ) (loads : List ℕ) → list_any (may_differ p plan (stage_of p plan n) n) loads ≡ list_any (differs_for p plan n loads) all
   loads_differ n loads =
       any_same (may_differ p plan (stage_of p plan n) n) (λ (x : ℕ). list_any (differs_at p plan (stage_of p plan n) n x) all) loads
-      (λ x. either_any (λ (d : Access). is_stored_after p plan (stage_of p plan n) x d && not (is_apart p plan n d.site)) (λ (d : Access). is_stored_beside p plan (stage_of p plan n) x d && not (is_apart_between p plan n d.site)) all)
+      (λ x. either_any (λ (d : Access). is_stored_after p plan (stage_of p plan n) x d && not (is_apart p plan n d.site))
+      (λ (d : Access). is_stored_beside p plan (stage_of p plan n) x d && not (is_apart_between p plan n d.site)) all)
       ∙ any_turned (differs_at p plan (stage_of p plan n) n) loads all
 
   access_found : (u : Access) → is_checked_access p plan site u ≡ list_any is_of (compared_with p plan all u)
@@ -79,5 +82,6 @@ module _ (p : Program) (plan : Plan) (site : ℕ) where
 
 pub checked_by_stores : (p : Program) (plan : Plan) (site : ℕ) → is_checked p plan site ≡ list_any (λ (c : Compared). c.site.0 == site) (compared_stores p plan)
 checked_by_stores p plan site =
-    any_same (is_checked_access p plan site) (λ (u : Access). list_any (is_of p plan site) (compared_with p plan (region_accesses p plan) u)) (region_accesses p plan) (access_found p plan site)
+    any_same (is_checked_access p plan site) (λ (u : Access). list_any (is_of p plan site) (compared_with p plan (region_accesses p plan) u))
+    (region_accesses p plan) (access_found p plan site)
     ∙ sym (any_flat (is_of p plan site) (compared_with p plan (region_accesses p plan)) (region_accesses p plan))

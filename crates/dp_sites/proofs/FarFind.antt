@@ -1,5 +1,6 @@
 -- Sites that go up one by one: the one with a number, and tests that ask for it.
-use Rattle.std.proofs.Common.{◌≡◌, refl, sym, ap, ◌∙◌, subst, ℕ, suc, ◌+◌, ◌<◌, ◌≤◌, ◌==◌, Bool, true, false, if◌then◌else◌, ◌&&◌, ◌||◌, not, List, [], ◌∷◌, ◌++◌, map, length, ℤ, Option, Some, None, arith, eqb-true, ne_eqb}
+use Rattle.std.proofs.Common.{◌≡◌, refl, sym, ap, ◌∙◌, subst, ℕ, suc, ◌+◌, ◌<◌, ◌≤◌, ◌==◌, Bool, true, false, if◌then◌else◌, ◌&&◌, ◌||◌, not, List, [], ◌∷◌}
+use Rattle.std.proofs.Common.{◌++◌, map, length, ℤ, Option, Some, None, arith, eqb-true, ne_eqb}
 use Rattle.std.specs.List.{list_all}
 use Rattle.dp_plan.specs.IsFar.{SiteTouch, Stored, is_stored, read_passes, store_of, stored_at, touch_passes}
 use Rattle.dp_plan.proofs.Ascent.{Ascends}
@@ -23,17 +24,20 @@ pub find-append : (n : ℕ) (xs ys : List SiteTouch) → find n (xs ++ ys) ≡ o
 find-append n [] ys = refl
 find-append n (t ∷ xs) ys = by (t.site == n) (find-append n xs ys)
   where
-    by : (b : Bool) → find n (xs ++ ys) ≡ or_touch (find n xs) (find n ys) → (if b then Some t else find n (xs ++ ys)) ≡ or_touch (if b then Some t else find n xs) (find n ys)
+    by : (b : Bool) → find n (xs ++ ys) ≡ or_touch (find n xs) (find n ys) → (if b then Some t else find n (xs ++ ys)) ≡ or_touch
+        (if b then Some t else find n xs) (find n ys)
     by true e = refl
     by false e = e
 
 pub none_below : (n k : ℕ) (xs : List SiteTouch) → TouchesRise k xs → n < k → find n xs ≡ None
 none_below n k [] h low = refl
-none_below n k (t ∷ xs) h low = ap (λ (b : Bool). if b then Some t else find n xs) (ne_eqb t.site n (λ e. omega (arith, e, h.0, low))) ∙ none_below n (suc k) xs h.1 (omega (arith, low))
+none_below n k (t ∷ xs) h low = ap (λ (b : Bool). if b then Some t else find n xs) (ne_eqb t.site n (λ e. omega (arith, e, h.0, low)))
+    ∙ none_below n (suc k) xs h.1 (omega (arith, low))
 
 pub none_above : (n k : ℕ) (xs : List SiteTouch) → TouchesRise k xs → k + length xs ≤ n → find n xs ≡ None
 none_above n k [] h high = refl
-none_above n k (t ∷ xs) h high = ap (λ (b : Bool). if b then Some t else find n xs) (ne_eqb t.site n (λ e. omega (arith, e, h.0, high))) ∙ none_above n (suc k) xs h.1 (omega (arith, high))
+none_above n k (t ∷ xs) h high = ap (λ (b : Bool). if b then Some t else find n xs) (ne_eqb t.site n (λ e. omega (arith, e, h.0, high)))
+    ∙ none_above n (suc k) xs h.1 (omega (arith, high))
 
 pub touches_split : (k : ℕ) (xs ys : List SiteTouch) → TouchesRise k (xs ++ ys) → TouchesRise k xs × TouchesRise (k + length xs) ys
 touches_split k [] ys h = let e : k ≡ k + 0 = omega arith in (tt, subst (λ (i : ℕ). TouchesRise i ys) e h)
@@ -50,7 +54,8 @@ pub store_found : (v : ℕ) (shift : ℤ) (d : ℕ) (xs : List SiteTouch) → st
 store_found v shift d [] = refl
 store_found v shift d (t ∷ xs) = by (t.site == d) (store_found v shift d xs)
   where
-    by : (b : Bool) → store_of v shift d xs ≡ stored_in v shift (find d xs) → (if b then stored_at v shift t.store else store_of v shift d xs) ≡ stored_in v shift (if b then Some t else find d xs)
+    by : (b : Bool) → store_of v shift d xs ≡ stored_in v shift (find d xs) → (if b then stored_at v shift t.store else store_of v shift d xs) ≡ stored_in v
+        shift (if b then Some t else find d xs)
     by true e = refl
     by false e = e
 
@@ -63,7 +68,8 @@ module _ (test : ℤ → ℤ → Bool) (v : ℕ) (s : Stored) (shift : ℤ) wher
   reads_pass None = true
   reads_pass (Some t) = list_all (read_passes test v s.array s.place shift) t.reads
 
-  merge : (e f a b x y : Bool) → (e ≡ true → x ≡ true) → (f ≡ true → y ≡ true) → (((not e || a) && (not f || b)) && (x && y)) ≡ ((if e then a else x) && (if f then b else y))
+  merge : (e f a b x y : Bool) → (e ≡ true → x ≡ true) → (f ≡ true → y ≡ true) →
+      (((not e || a) && (not f || b)) && (x && y)) ≡ ((if e then a else x) && (if f then b else y))
   merge true true a b x y p q = ap (λ (t : Bool). (a && b) && (t && y)) (p refl) ∙ ap (λ (t : Bool). (a && b) && t) (q refl) ∙ end a b
     where
       end : (a b : Bool) → ((a && b) && true) ≡ (a && b)
@@ -89,7 +95,8 @@ module _ (test : ℤ → ℤ → Bool) (v : ℕ) (s : Stored) (shift : ℤ) wher
   chosen f false t o = refl
 
   -- the test of all sites is one of the two that are asked for
-  pub all_found : (d u k : ℕ) (xs : List SiteTouch) → TouchesRise k xs → list_all (touch_passes test v d u s shift) xs ≡ (stores_it (find d xs) && reads_pass (find u xs))
+  pub all_found : (d u k : ℕ) (xs : List SiteTouch) → TouchesRise k xs →
+      list_all (touch_passes test v d u s shift) xs ≡ (stores_it (find d xs) && reads_pass (find u xs))
   all_found d u k [] h = refl
   all_found d u k (t ∷ xs) h =
       ap (λ (b : Bool). touch_passes test v d u s shift t && b) (all_found d u (suc k) xs h.1)

@@ -39,13 +39,16 @@ base false false true false = refl
 base false false false true = refl
 base false false false false = refl
 
-four : (a b c e x y : Bool) (dl ul : Bool) → a ≡ (if dl then true else x) → c ≡ (if dl then x else true) → b ≡ (if ul then true else y) → e ≡ (if ul then y else true) → ((a && b) && (c && e)) ≡ (x && y)
+four : (a b c e x y : Bool) (dl ul : Bool) → a ≡ (if dl then true else x) → c ≡ (if dl then x else true) → b ≡ (if ul then true else y) →
+    e ≡ (if ul then y else true) → ((a && b) && (c && e)) ≡ (x && y)
 four a b c e x y dl ul p r q s =
     ap (λ (z : Bool). (z && b) && (c && e)) p ∙ ap (λ (z : Bool). ((if dl then true else x) && z) && (c && e)) q
-    ∙ ap (λ (z : Bool). ((if dl then true else x) && (if ul then true else y)) && (z && e)) r ∙ ap (λ (z : Bool). ((if dl then true else x) && (if ul then true else y)) && ((if dl then x else true) && z)) s ∙ base x y dl ul
+    ∙ ap (λ (z : Bool). ((if dl then true else x) && (if ul then true else y)) && (z && e)) r
+    ∙ ap (λ (z : Bool). ((if dl then true else x) && (if ul then true else y)) && ((if dl then x else true) && z)) s ∙ base x y dl ul
 
 module _ (test : ℤ → ℤ → ℤ → Bool) (v d u k : ℕ) (condition : List SiteTouch) (h : Halves) (rises : TouchesRise k (front_touches condition h ++ back_touches h))
-    (td tu : SiteTouch) (atD : find d (front_touches condition h ++ back_touches h) ≡ Some td) (atU : find u (front_touches condition h ++ back_touches h) ≡ Some tu)
+    (td tu : SiteTouch) (atD : find d (front_touches condition h ++ back_touches h) ≡ Some td)
+    (atU : find u (front_touches condition h ++ back_touches h) ≡ Some tu)
     (lateD lateU : Bool) (whenD : Among d (k + length (front_touches condition h)) lateD) (whenU : Among u (k + length (front_touches condition h)) lateU) where
   abbrev fs : List SiteTouch
   fs = front_touches condition h
@@ -58,11 +61,14 @@ module _ (test : ℤ → ℤ → ℤ → Bool) (v d u k : ℕ) (condition : List
 
   stored : option_or (store_of v (pos 0) d fs) (store_of v h.stride d bs) ≡ stored_at v (shift_by h.stride lateD) td.store
   stored =
-      ap (λ (o : Option Stored). option_or o (store_of v h.stride d bs)) (store_found v (pos 0) d fs ∙ ap (stored_in v (pos 0)) (found_first d k fs bs rises td atD lateD whenD))
-      ∙ ap (option_or (stored_in v (pos 0) (if lateD then None else Some td))) (store_found v h.stride d bs ∙ ap (stored_in v h.stride) (found_second d k fs bs rises td atD lateD whenD))
+      ap (λ (o : Option Stored). option_or o (store_of v h.stride d bs)) (store_found v (pos 0) d fs
+      ∙ ap (stored_in v (pos 0)) (found_first d k fs bs rises td atD lateD whenD))
+      ∙ ap (option_or (stored_in v (pos 0) (if lateD then None else Some td))) (store_found v h.stride d bs
+      ∙ ap (stored_in v h.stride) (found_second d k fs bs rises td atD lateD whenD))
       ∙ by lateD
     where
-      by : (late : Bool) → option_or (stored_in v (pos 0) (if late then None else Some td)) (stored_in v h.stride (if late then Some td else None)) ≡ stored_at v (shift_by h.stride late) td.store
+      by : (late : Bool) → option_or (stored_in v (pos 0) (if late then None else Some td)) (stored_in v h.stride (if late then Some td else None)) ≡ stored_at
+          v (shift_by h.stride late) td.store
       by true = refl
       by false = or_stored_none (stored_at v (pos 0) td.store)
 
@@ -74,29 +80,40 @@ module _ (test : ℤ → ℤ → ℤ → Bool) (v d u k : ℕ) (condition : List
     itself = ap (is_stored s) is ∙ and_from _ _ (eq-eqb s.array s.array refl) ((Decides-int_eq s.place s.place).1 refl)
 
     -- the tests in both pieces, of d and of u
-    same_store : (late : Bool) → lateD ≡ late → (stores_it t v s (pos 0) (if late then None else Some td) ≡ (if late then true else is_stored s (stored_at v (shift_by h.stride lateD) td.store))) × (stores_it t v s h.stride (if late then Some td else None) ≡ (if late then is_stored s (stored_at v (shift_by h.stride lateD) td.store) else true))
+    same_store : (late : Bool) → lateD ≡ late →
+        (stores_it t v s (pos 0) (if late then None else Some td) ≡ (if late then true else is_stored s (stored_at v (shift_by h.stride lateD) td.store)))
+        × (stores_it t v s h.stride (if late then Some td else None) ≡ (if late then is_stored s (stored_at v (shift_by h.stride lateD) td.store) else true))
     same_store true e = (refl, ap (λ (b : Bool). is_stored s (stored_at v (shift_by h.stride b) td.store)) (sym e))
     same_store false e = (ap (λ (b : Bool). is_stored s (stored_at v (shift_by h.stride b) td.store)) (sym e), refl)
 
-    same_reads : (late : Bool) → lateU ≡ late → (reads_pass t v s (pos 0) (if late then None else Some tu) ≡ (if late then true else list_all (read_passes t v s.array s.place (shift_by h.stride lateU)) tu.reads)) × (reads_pass t v s h.stride (if late then Some tu else None) ≡ (if late then list_all (read_passes t v s.array s.place (shift_by h.stride lateU)) tu.reads else true))
+    same_reads : (late : Bool) → lateU ≡ late →
+        (reads_pass t v s (pos 0) (if late then None else Some tu) ≡ (if late then true
+        else list_all (read_passes t v s.array s.place (shift_by h.stride lateU)) tu.reads))
+        × (reads_pass t v s h.stride (if late then Some tu else None) ≡ (if late then list_all (read_passes t v s.array s.place (shift_by h.stride lateU))
+        tu.reads else true))
     same_reads true e = (refl, ap (λ (b : Bool). list_all (read_passes t v s.array s.place (shift_by h.stride b)) tu.reads) (sym e))
     same_reads false e = (ap (λ (b : Bool). list_all (read_passes t v s.array s.place (shift_by h.stride b)) tu.reads) (sym e), refl)
 
     all_is : all_pass t v d u condition h (Some s) ≡ list_all (read_passes t v s.array s.place (shift_by h.stride lateU)) tu.reads
     all_is =
         ap (λ (b : Bool). b && list_all (Rattle.dp_plan.specs.IsFar.touch_passes t v d u s h.stride) bs) (all_found t v s (pos 0) d u k fs rest.0)
-        ∙ ap (λ (b : Bool). (stores_it t v s (pos 0) (find d fs) && reads_pass t v s (pos 0) (find u fs)) && b) (all_found t v s h.stride d u (k + length fs) bs rest.1)
-        ∙ four (stores_it t v s (pos 0) (find d fs)) (reads_pass t v s (pos 0) (find u fs)) (stores_it t v s h.stride (find d bs)) (reads_pass t v s h.stride (find u bs))
-        (is_stored s (stored_at v (shift_by h.stride lateD) td.store)) (list_all (read_passes t v s.array s.place (shift_by h.stride lateU)) tu.reads) lateD lateU
+        ∙ ap (λ (b : Bool). (stores_it t v s (pos 0) (find d fs) && reads_pass t v s (pos 0) (find u fs)) && b)
+        (all_found t v s h.stride d u (k + length fs) bs rest.1)
+        ∙ four (stores_it t v s (pos 0) (find d fs)) (reads_pass t v s (pos 0) (find u fs)) (stores_it t v s h.stride (find d bs))
+        (reads_pass t v s h.stride (find u bs))
+        (is_stored s (stored_at v (shift_by h.stride lateD) td.store)) (list_all (read_passes t v s.array s.place (shift_by h.stride lateU))
+        tu.reads) lateD lateU
         (ap (stores_it t v s (pos 0)) (found_first d k fs bs rises td atD lateD whenD) ∙ (same_store lateD refl).0)
         (ap (stores_it t v s h.stride) (found_second d k fs bs rises td atD lateD whenD) ∙ (same_store lateD refl).1)
         (ap (reads_pass t v s (pos 0)) (found_first u k fs bs rises tu atU lateU whenU) ∙ (same_reads lateU refl).0)
         (ap (reads_pass t v s h.stride) (found_second u k fs bs rises tu atU lateU whenU) ∙ (same_reads lateU refl).1)
         ∙ ap (λ (b : Bool). b && list_all (read_passes t v s.array s.place (shift_by h.stride lateU)) tu.reads) itself
 
-  pub halves_are : halves_pass test v d u condition (Some h) ≡ passes_stored (test h.stride) v (shift_by h.stride lateU) tu (stored_at v (shift_by h.stride lateD) td.store)
+  pub halves_are : halves_pass test v d u condition (Some h) ≡ passes_stored (test h.stride) v (shift_by h.stride lateU) tu
+      (stored_at v (shift_by h.stride lateD) td.store)
   halves_are = ap (all_pass (test h.stride) v d u condition h) stored ∙ by (stored_at v (shift_by h.stride lateD) td.store) refl
     where
-      by : (o : Option Stored) → stored_at v (shift_by h.stride lateD) td.store ≡ o → all_pass (test h.stride) v d u condition h o ≡ passes_stored (test h.stride) v (shift_by h.stride lateU) tu o
+      by : (o : Option Stored) → stored_at v (shift_by h.stride lateD) td.store ≡ o → all_pass (test h.stride) v d u condition h o ≡ passes_stored
+          (test h.stride) v (shift_by h.stride lateU) tu o
       by None e = refl
       by (Some s) e = all_is s e

@@ -8,7 +8,7 @@ use Rattle.dp_tree.specs.Numbering.{number_at}
 use Rattle.dp_tree.specs.Statements.{asked}
 use Rattle.dp_plan.specs.Access.{accesses, is_region_at, region_in}
 use Rattle.dp_plan.specs.Walks.{is_region_of}
-use Rattle.dp_plan.specs.Written.{site_in, region_sites}
+use Rattle.dp_plan.specs.Written.{access_site, region_sites}
 use Rattle.dp_plan.proofs.TopStatements.{sites_are}
 use Rattle.dp_sites.specs.Lists.{asked_in_region, site_list, site_lists}
 use Rattle.dp_room.proofs.ListLemmas.{next_of}
@@ -18,7 +18,8 @@ module _ {X : Type 0} where
   pub own_and_one : (old one two own inner : List X) {whole : List X} → one ≡ old ++ own → two ≡ one ++ inner → whole ≡ own ++ inner → two ≡ old ++ whole
   own_and_one old one two own inner p q is = q ∙ ap (λ l. l ++ inner) p ∙ append_assoc old own inner ∙ ap (λ l. old ++ l) (sym is)
 
-  pub own_and_two : (old one two three own a b : List X) {whole : List X} → one ≡ old ++ own → two ≡ one ++ a → three ≡ two ++ b → whole ≡ own ++ (a ++ b) → three ≡ old ++ whole
+  pub own_and_two : (old one two three own a b : List X) {whole : List X} → one ≡ old ++ own → two ≡ one ++ a → three ≡ two ++ b → whole ≡ own ++ (a ++ b) →
+      three ≡ old ++ whole
   own_and_two old one two three own a b p q r is = own_and_one old one three own (a ++ b) p (r ∙ ap (λ l. l ++ b) q ∙ append_assoc one a b) is
 
   -- nothing joins the end
@@ -56,7 +57,8 @@ numbers_of x = sites_are x
 pub numbers_in : (all : List Stmt) → flat_map (asked number_at) all ≡ site_lists all
 unfolding site_lists
 numbers_in [] = refl
-numbers_in (x ∷ rest) = ap (λ ns. ns ++ flat_map (asked number_at) rest) (sites_are x) ∙ ap (λ ns. map site_in (accesses x) ++ ns) (numbers_in rest) ∙ sym (map-append site_in (accesses x) (flat_map accesses rest))
+numbers_in (x ∷ rest) = ap (λ ns. ns ++ flat_map (asked number_at) rest) (sites_are x) ∙ ap (λ ns. map access_site (accesses x) ++ ns) (numbers_in rest)
+    ∙ sym (map-append access_site (accesses x) (flat_map accesses rest))
 
 pub numbers_in_region : (p : Program) (r : ℕ) → flat_map (asked number_at) (region_in p r) ≡ region_sites p r
 unfolding site_lists

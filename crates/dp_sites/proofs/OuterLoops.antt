@@ -1,5 +1,6 @@
 -- Which sites share an inner `while`, by the last site of the outermost one that has the first of them.
-use Rattle.std.proofs.Common.{◌≡◌, ◌⊎◌, inl, inr, refl, sym, ap, ◌∙◌, subst, ℕ, suc, ◌+◌, ◌-◌, ◌<◌, ◌≤◌, ◌==◌, Bool, true, false, ◌&&◌, ◌||◌, nat_le, nat_lt, List, [], ◌∷◌, ◌++◌, map, length, Option, Some, None, slice_get, arith, eq-eqb, ne_eqb, le-leb, lt-ltb, le-ltb}
+use Rattle.std.proofs.Common.{◌≡◌, ◌⊎◌, inl, inr, refl, sym, ap, ◌∙◌, subst, ℕ, suc, ◌+◌, ◌-◌, ◌<◌, ◌≤◌, ◌==◌, Bool, true, false, ◌&&◌, ◌||◌, nat_le, nat_lt}
+use Rattle.std.proofs.Common.{List, [], ◌∷◌, ◌++◌, map, length, Option, Some, None, slice_get, arith, eq-eqb, ne_eqb, le-leb, lt-ltb, le-ltb}
 use Rattle.std.proofs.lemmas.Bool.{cases_eq, cases_lt, and_parts, lt-leb, or_right, le-ltb, lt-ltb, or_cases}
 use Rattle.std.specs.List.{list_any}
 use Rattle.dp_tree.specs.declared.Stmt.{Stmt, Row_of-Stmt, end_of-Stmt, more_of-Stmt}
@@ -7,7 +8,7 @@ use Rattle.dp_tree.specs.declared.Stmt.TheVariants as tree
 use Rattle.std.proofs.lemmas.List.{length-map, map-append}
 use Rattle.dp_plan.specs.Access.{Access, accesses, accesses_in, loaded_by}
 use Rattle.dp_plan.specs.Touch.{reads}
-use Rattle.dp_plan.specs.Written.{site_in}
+use Rattle.dp_plan.specs.Written.{access_site}
 use Rattle.dp_plan.specs.Checked.{has_both, has_site, loops, loops_in}
 use Rattle.dp_sites.specs.declared.part.Part.{Part}
 use Rattle.dp_sites.specs.steps.Parts.{part_of, parts, parts_in, until_in}
@@ -17,19 +18,20 @@ use Rattle.dp_plan.proofs.LoadLemmas.{list_any-append}
 
 -- the sites go up one by one from k
 abbrev pub SitesRise : ℕ → List Access → Type 0
-SitesRise k xs = Ascends k (map site_in xs)
+SitesRise k xs = Ascends k (map access_site xs)
 
 pub rises_split : (k : ℕ) (xs bs : List Access) → SitesRise k (xs ++ bs) → SitesRise k xs × SitesRise (k + length xs) bs
 rises_split k xs bs h =
-    let r = ascends_split k (map site_in xs) (map site_in bs) (subst (λ (ns : List ℕ). Ascends k ns) (map-append site_in xs bs) h) in
-    (r.0, subst (λ (n : ℕ). SitesRise (k + n) bs) (length-map xs site_in) r.1)
+    let r = ascends_split k (map access_site xs) (map access_site bs) (subst (λ (ns : List ℕ). Ascends k ns) (map-append access_site xs bs) h) in
+    (r.0, subst (λ (n : ℕ). SitesRise (k + n) bs) (length-map xs access_site) r.1)
 
 -- a site that is found stands among the numbers, and one among them is found
 pub has_bounds : (m k : ℕ) (xs : List Access) → SitesRise k xs → has_site m xs ≡ true → (k ≤ m) × (m < k + length xs)
 has_bounds m k [] h e = absurd (cc)
 has_bounds m k (a ∷ xs) h e = elim (cases_eq a.site m) [
   | inl t ↦ (omega (arith, h.0, t), omega (arith, h.0, t))
-  | inr f ↦ let r = has_bounds m (suc k) xs h.1 (ap (λ (b : Bool). b || has_site m xs) (sym (ne_eqb a.site m f)) ∙ e) in (omega (arith, r.0), omega (arith, r.1))
+  | inr f ↦ let r = has_bounds m (suc k) xs h.1 (ap (λ (b : Bool). b || has_site m xs) (sym (ne_eqb a.site m f)) ∙ e) in
+      (omega (arith, r.0), omega (arith, r.1))
 ]
 
 pub has_risen : (m k : ℕ) (xs : List Access) → SitesRise k xs → k ≤ m → has_site m xs ≡ nat_lt m (k + length xs)
@@ -67,8 +69,8 @@ two_same a b c e p q = ap (λ (x : Bool). x || b) p ∙ ap (λ (x : Bool). c || 
 known : (k : ℕ) (x : Stmt) → SitesRise k (accesses x) → 0 < length (accesses x) → until_in None x ≡ Some (k + (length (accesses x) - 1))
 unfolding Rattle.dp_sites.specs.Lists.site_list
 known k x h some =
-    let many : length (map site_in (accesses x)) ≡ length (accesses x) = length-map (accesses x) site_in in
-    last_risen k (map site_in (accesses x)) h (omega (arith, some, many)) ∙ ap (λ (n : ℕ). Some (k + (n - 1))) many
+    let many : length (map access_site (accesses x)) ≡ length (accesses x) = length-map (accesses x) access_site in
+    last_risen k (map access_site (accesses x)) h (omega (arith, some, many)) ∙ ap (λ (n : ℕ). Some (k + (n - 1))) many
 
 dist : (s t h r : Bool) → r ≡ (h && t) → ((s && t) || r) ≡ ((s || h) && t)
 dist true true h r e = refl
@@ -109,13 +111,16 @@ module _ (u d : ℕ) where
 
   has_both-first : (xs bs : List Access) → has_both u d xs ≡ true → has_both u d (xs ++ bs) ≡ true
   has_both-first xs bs e = let both = and_parts (has_site u xs) (has_site d xs) e in
-      ap (λ (t : Bool). t && has_site d (xs ++ bs)) (has-append u xs bs ∙ ap (λ (t : Bool). t || has_site u bs) both.0) ∙ has-append d xs bs ∙ ap (λ (t : Bool). t || has_site d bs) both.1
+      ap (λ (t : Bool). t && has_site d (xs ++ bs)) (has-append u xs bs ∙ ap (λ (t : Bool). t || has_site u bs) both.0) ∙ has-append d xs bs
+      ∙ ap (λ (t : Bool). t || has_site d bs) both.1
 
   has_both-second : (xs bs : List Access) → has_both u d bs ≡ true → has_both u d (xs ++ bs) ≡ true
   has_both-second xs bs e = let both = and_parts (has_site u bs) (has_site d bs) e in
-      ap (λ (t : Bool). t && has_site d (xs ++ bs)) (has-append u xs bs ∙ or_right (has_site u xs) (has_site u bs) both.0) ∙ has-append d xs bs ∙ or_right (has_site d xs) (has_site d bs) both.1
+      ap (λ (t : Bool). t && has_site d (xs ++ bs)) (has-append u xs bs ∙ or_right (has_site u xs) (has_site u bs) both.0) ∙ has-append d xs bs
+      ∙ or_right (has_site d xs) (has_site d bs) both.1
 
-  any_split : (xs bs : List (List Access)) → list_any (has_both u d) (xs ++ bs) ≡ true → (list_any (has_both u d) xs ≡ true) ⊎ (list_any (has_both u d) bs ≡ true)
+  any_split : (xs bs : List (List Access)) → list_any (has_both u d) (xs ++ bs) ≡ true → (list_any (has_both u d) xs ≡ true)
+      ⊎ (list_any (has_both u d) bs ≡ true)
   any_split xs bs e = or_cases _ _ (sym (list_any-append (has_both u d) xs bs) ∙ e)
 
   -- what an inner loop has, the statement has
@@ -123,15 +128,21 @@ module _ (u d : ℕ) where
     inner : (x : Stmt) → list_any (has_both u d) (loops x) ≡ true → has_both u d (accesses x) ≡ true
     inner (tree.If' site cond h a k b) e = by (any_split (loops_in a) (loops_in b) e) (inner_in a) (inner_in b)
       where
-        by : (list_any (has_both u d) (loops_in a) ≡ true) ⊎ (list_any (has_both u d) (loops_in b) ≡ true) → (list_any (has_both u d) (loops_in a) ≡ true → has_both u d (accesses_in a) ≡ true) → (list_any (has_both u d) (loops_in b) ≡ true → has_both u d (accesses_in b) ≡ true) → has_both u d (accesses (tree.If' site cond h a k b)) ≡ true
-        by (inl t) f g = has_both-second (record { site = site.0; loads = loaded_by cond; stores = None } ∷ []) (accesses_in a ++ accesses_in b) (has_both-first (accesses_in a) (accesses_in b) (f t))
-        by (inr t) f g = has_both-second (record { site = site.0; loads = loaded_by cond; stores = None } ∷ []) (accesses_in a ++ accesses_in b) (has_both-second (accesses_in a) (accesses_in b) (g t))
+        by : (list_any (has_both u d) (loops_in a) ≡ true) ⊎ (list_any (has_both u d) (loops_in b) ≡ true) → (list_any (has_both u d) (loops_in a) ≡ true →
+            has_both u d (accesses_in a) ≡ true) → (list_any (has_both u d) (loops_in b) ≡ true → has_both u d (accesses_in b) ≡ true) →
+            has_both u d (accesses (tree.If' site cond h a k b)) ≡ true
+        by (inl t) f g = has_both-second (record { site = site.0; loads = loaded_by cond; stores = None } ∷ []) (accesses_in a ++ accesses_in b)
+            (has_both-first (accesses_in a) (accesses_in b) (f t))
+        by (inr t) f g = has_both-second (record { site = site.0; loads = loaded_by cond; stores = None } ∷ []) (accesses_in a ++ accesses_in b)
+            (has_both-second (accesses_in a) (accesses_in b) (g t))
     inner (tree.While' site cond h a) e = by (or_cases _ _ e) (inner_in a)
       where
-        by : (has_both u d (accesses (tree.While' site cond h a)) ≡ true) ⊎ (list_any (has_both u d) (loops_in a) ≡ true) → (list_any (has_both u d) (loops_in a) ≡ true → has_both u d (accesses_in a) ≡ true) → has_both u d (accesses (tree.While' site cond h a)) ≡ true
+        by : (has_both u d (accesses (tree.While' site cond h a)) ≡ true) ⊎ (list_any (has_both u d) (loops_in a) ≡ true) →
+            (list_any (has_both u d) (loops_in a) ≡ true → has_both u d (accesses_in a) ≡ true) → has_both u d (accesses (tree.While' site cond h a)) ≡ true
         by (inl t) f = t
         by (inr t) f = has_both-second (record { site = site.0; loads = loaded_by cond; stores = None } ∷ []) (accesses_in a) (f t)
-    inner (tree.Region' r site cond h a) e = has_both-second (record { site = site.0; loads = loaded_by cond; stores = None } ∷ []) (accesses_in a) (inner_in a e)
+    inner (tree.Region' r site cond h a) e =
+        has_both-second (record { site = site.0; loads = loaded_by cond; stores = None } ∷ []) (accesses_in a) (inner_in a e)
     inner (tree.Assign site x v) e = absurd (cc e)
     inner (tree.Store site x i v) e = absurd (cc e)
     inner (tree.Print site v) e = absurd (cc e)
@@ -142,7 +153,9 @@ module _ (u d : ℕ) where
     inner_in end_of-Stmt e = absurd (cc e)
     inner_in (more_of-Stmt x rest) e = by (any_split (loops x) (loops_in rest) e) (inner x) (inner_in rest)
       where
-        by : (list_any (has_both u d) (loops x) ≡ true) ⊎ (list_any (has_both u d) (loops_in rest) ≡ true) → (list_any (has_both u d) (loops x) ≡ true → has_both u d (accesses x) ≡ true) → (list_any (has_both u d) (loops_in rest) ≡ true → has_both u d (accesses_in rest) ≡ true) → has_both u d (accesses x ++ accesses_in rest) ≡ true
+        by : (list_any (has_both u d) (loops x) ≡ true) ⊎ (list_any (has_both u d) (loops_in rest) ≡ true) →
+            (list_any (has_both u d) (loops x) ≡ true → has_both u d (accesses x) ≡ true) → (list_any (has_both u d) (loops_in rest) ≡ true →
+            has_both u d (accesses_in rest) ≡ true) → has_both u d (accesses x ++ accesses_in rest) ≡ true
         by (inl t) f g = has_both-first (accesses x) (accesses_in rest) (f t)
         by (inr t) f g = has_both-second (accesses x) (accesses_in rest) (g t)
 
@@ -191,7 +204,8 @@ module _ (u d : ℕ) where
           ∙ sym (or_left _ _ _ (alone site.0) refl)
       shared k (tree.Region' r site cond _ a) h = shared_in (suc k) a h.1 ∙ sym (or_left _ _ _ (alone site.0) refl)
       shared k (tree.While' site cond w a) h =
-          absorbed (has_both u d (accesses (tree.While' site cond w a))) (list_any (has_both u d) (loops_in a)) (λ e. inner (tree.While' site cond w a) (or_right _ _ e))
+          absorbed (has_both u d (accesses (tree.While' site cond w a))) (list_any (has_both u d) (loops_in a))
+          (λ e. inner (tree.While' site cond w a) (or_right _ _ e))
           ∙ both_here k (accesses (tree.While' site cond w a)) h (omega arith)
           ∙ sym (within (k + (length (accesses (tree.While' site cond w a)) - 1)) (tree.While' site cond w a))
           ∙ sym (ap (λ (o : Option ℕ). list_any (reaches u d) (parts_with o)) (known k (tree.While' site cond w a) h (omega arith)))
@@ -199,7 +213,8 @@ module _ (u d : ℕ) where
           parts_with : Option ℕ → List Part
           parts_with o = part_of o (record { site = site.0; reads = reads cond; store = None }) ∷ parts_in o a
 
-      shared_in : {n : _} (k : ℕ) (row : Row_of-Stmt n) → SitesRise k (accesses_in row) → list_any (has_both u d) (loops_in row) ≡ list_any (reaches u d) (parts_in None row)
+      shared_in : {n : _} (k : ℕ) (row : Row_of-Stmt n) → SitesRise k (accesses_in row) → list_any (has_both u d) (loops_in row) ≡ list_any
+          (reaches u d) (parts_in None row)
       shared_in k end_of-Stmt h = refl
       shared_in k (more_of-Stmt x rest) h =
           let both = rises_split k (accesses x) (accesses_in rest) h in

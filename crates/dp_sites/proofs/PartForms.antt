@@ -1,5 +1,6 @@
 -- What an expression loads, by its form.
-use Rattle.std.proofs.Common.{◌≡◌, refl, sym, ap, ◌∙◌, ℕ, suc, ◌+◌, ◌<◌, ℤ, List, [], ◌∷◌, ◌++◌, map, length, drop, get_or, Option, Some, None, append-nil, append_assoc, add-one, drop-cons}
+use Rattle.std.proofs.Common.{◌≡◌, refl, sym, ap, ◌∙◌, ℕ, suc, ◌+◌, ◌<◌, ℤ, List, [], ◌∷◌, ◌++◌, map, length, drop, get_or, Option, Some, None, append-nil}
+use Rattle.std.proofs.Common.{append_assoc, add-one, drop-cons}
 use Rattle.std.specs.List.{flat_map}
 use Rattle.dp_base.specs.declared.SiteId.{SiteId}
 use Rattle.dp_tree.specs.declared.Stmt.{Stmt}
@@ -60,19 +61,23 @@ two_parts old one two a b p q = q ∙ ap (λ l. l ++ b) p ∙ append_assoc old a
 abbrev pub part : SiteId → Option ℕ → List Touched → Option Touched → Part
 part site until loads stores = record { site = site.0; loads = loads; stores = stores; until = until }
 
-pub parts_hidden : (until : Option ℕ) (xs : List Stmt) → parts_in until (Rattle.dp_tree.specs.declared.Stmt.TheBlock.hidden-the_row-Stmt-0 xs) ≡ flat_map (parts until) xs
+pub parts_hidden : (until : Option ℕ) (xs : List Stmt) → parts_in until (Rattle.dp_tree.specs.declared.Stmt.TheBlock.hidden-the_row-Stmt-0 xs)
+    ≡ flat_map (parts until) xs
 unfolding opened
 parts_hidden until [] = refl
 parts_hidden until (x ∷ xs) = ap (λ r. parts until x ++ r) (parts_hidden until xs)
 
 module _ (until : Option ℕ) where
-  pub part-Assign : (site : SiteId) (x : VarId) (e : Expr) → part_list until (tree.Assign site x e) ≡ part site until (loads_in e) (Some (record { var = x; place = None })) ∷ []
+  pub part-Assign : (site : SiteId) (x : VarId) (e : Expr) → part_list until (tree.Assign site x e) ≡ part site until (loads_in e)
+      (Some (record { var = x; place = None })) ∷ []
   unfolding part_list loads_in
   part-Assign site x e = refl
 
-  pub part-Store : (site : SiteId) (x : VarId) (i e : Expr) → part_list until (tree.Store site x i e) ≡ part site until (loads_in i ++ loads_in e) (Some (record { var = x; place = index_place i })) ∷ []
+  pub part-Store : (site : SiteId) (x : VarId) (i e : Expr) → part_list until (tree.Store site x i e) ≡ part site until (loads_in i ++ loads_in e)
+      (Some (record { var = x; place = index_place i })) ∷ []
   unfolding part_list loads_in index_place
-  part-Store site x i e = ap (λ l. part site until l (Some (record { var = x; place = Rattle.dp_sites.specs.Place.place_by i })) ∷ []) (map-append touched (reads i) (reads e))
+  part-Store site x i e =
+      ap (λ l. part site until l (Some (record { var = x; place = Rattle.dp_sites.specs.Place.place_by i })) ∷ []) (map-append touched (reads i) (reads e))
 
   pub part-Print : (site : SiteId) (e : Expr) → part_list until (tree.Print site e) ≡ part site until (loads_in e) None ∷ []
   unfolding part_list loads_in
@@ -86,17 +91,22 @@ module _ (until : Option ℕ) where
   unfolding part_list
   part-Call f line args = refl
 
-  pub part-If : (site : SiteId) (e : Expr) (a b : List Stmt) → part_list until (tree.If site e a b) ≡ part site until (loads_in e) None ∷ (part_lists until a ++ part_lists until b)
+  pub part-If : (site : SiteId) (e : Expr) (a b : List Stmt) → part_list until (tree.If site e a b) ≡ part site until (loads_in e) None
+      ∷ (part_lists until a ++ part_lists until b)
   unfolding part_list part_lists loads_in opened
   part-If site e a b =
-      ap (λ r. part site until (map touched (reads e)) None ∷ (r ++ parts_in until (Rattle.dp_tree.specs.declared.Stmt.TheBlock.hidden-the_row-Stmt-0 b))) (parts_hidden until a)
+      ap (λ r. part site until (map touched (reads e)) None ∷ (r ++ parts_in until (Rattle.dp_tree.specs.declared.Stmt.TheBlock.hidden-the_row-Stmt-0 b)))
+      (parts_hidden until a)
       ∙ ap (λ r. part site until (map touched (reads e)) None ∷ (flat_map (parts until) a ++ r)) (parts_hidden until b)
 
-  pub part-While : (site : SiteId) (e : Expr) (a : List Stmt) → part_list until (tree.While site e a) ≡ part site (until_in until (tree.While site e a)) (loads_in e) None ∷ part_lists (until_in until (tree.While site e a)) a
+  pub part-While : (site : SiteId) (e : Expr) (a : List Stmt) → part_list until (tree.While site e a) ≡ part site (until_in until (tree.While site e a))
+      (loads_in e) None ∷ part_lists (until_in until (tree.While site e a)) a
   unfolding part_list part_lists loads_in opened
-  part-While site e a = ap (λ r. part site (until_in until (tree.While site e a)) (map touched (reads e)) None ∷ r) (parts_hidden (until_in until (tree.While site e a)) a)
+  part-While site e a =
+      ap (λ r. part site (until_in until (tree.While site e a)) (map touched (reads e)) None ∷ r) (parts_hidden (until_in until (tree.While site e a)) a)
 
-  pub part-Region : (r : ℕ) (site : SiteId) (e : Expr) (a : List Stmt) → part_list until (tree.Region r site e a) ≡ part site until (loads_in e) None ∷ part_lists until a
+  pub part-Region : (r : ℕ) (site : SiteId) (e : Expr) (a : List Stmt) → part_list until (tree.Region r site e a) ≡ part site until (loads_in e) None
+      ∷ part_lists until a
   unfolding part_list part_lists loads_in opened
   part-Region r site e a = ap (λ r. part site until (map touched (reads e)) None ∷ r) (parts_hidden until a)
 
@@ -105,7 +115,8 @@ module _ (until : Option ℕ) where
   parts-none = refl
 
   -- one statement more
-  pub parts-next : (all : List Stmt) (i : ℕ) (s : Stmt) → i < length all → s ≡ get_or all i s → part_lists until (drop i all) ≡ part_list until s ++ part_lists until (drop (i + 1) all)
+  pub parts-next : (all : List Stmt) (i : ℕ) (s : Stmt) → i < length all → s ≡ get_or all i s → part_lists until (drop i all) ≡ part_list until s
+      ++ part_lists until (drop (i + 1) all)
   unfolding part_lists part_list
   parts-next all i s h is =
       let here : drop i all ≡ s ∷ drop (suc i) all = drop-cons all i s h ∙ ap (λ (t : Stmt). t ∷ drop (suc i) all) (sym is) in

@@ -1,10 +1,11 @@
 -- What the code answers of a part is what the definition says of its site.
-use Rattle.std.proofs.Common.{◌≡◌, inl, inr, refl, sym, ap, ◌∙◌, subst, ℕ, zero, suc, ◌+◌, ◌<◌, ◌≤◌, ◌==◌, Bool, true, false, if◌then◌else◌, not, ◌&&◌, ◌||◌, nat_lt, nat_le, List, [], ◌∷◌, map, Option, Some, None, slice_get, arith, eq-eqb, ne_eqb, lt-ltb, le-ltb, le-leb}
+use Rattle.std.proofs.Common.{◌≡◌, inl, inr, refl, sym, ap, ◌∙◌, subst, ℕ, zero, suc, ◌+◌, ◌<◌, ◌≤◌, ◌==◌, Bool, true, false, if◌then◌else◌, not, ◌&&◌, ◌||◌}
+use Rattle.std.proofs.Common.{nat_lt, nat_le, List, [], ◌∷◌, map, Option, Some, None, slice_get, arith, eq-eqb, ne_eqb, lt-ltb, le-ltb, le-leb}
 use Rattle.std.proofs.lemmas.Bool.{cases_lt, lt-leb}
 use Rattle.std.specs.List.{cons_option, list_any}
 use Rattle.dp_tree.specs.declared.Stmt.{Stmt}
 use Rattle.dp_plan.specs.Access.{Access, accesses}
-use Rattle.dp_plan.specs.Written.{site_in}
+use Rattle.dp_plan.specs.Written.{access_site}
 use Rattle.dp_plan.specs.IsFar.{SiteTouch, touches}
 use Rattle.dp_plan.specs.Checked.{has_site}
 use Rattle.dp_sites.specs.declared.moving.Storing.{Storing}
@@ -25,7 +26,8 @@ part_site u = u.site
 site_same : {a : Access} {t : SiteTouch} {u : Part} → Same a t u → u.site ≡ t.site
 site_same h = ap (λ (x : Part). x.site) h.part_is
 
-pub sites_same : (xs : List Access) (ts : List SiteTouch) (us : List Part) → Aligned xs ts us → (map site_in xs ≡ map part_site us) × (map touch_site ts ≡ map part_site us)
+pub sites_same : (xs : List Access) (ts : List SiteTouch) (us : List Part) → Aligned xs ts us → (map access_site xs ≡ map part_site us)
+    × (map touch_site ts ≡ map part_site us)
 sites_same [] [] [] h = (refl, refl)
 sites_same [] [] (u ∷ us) h = absurd h
 sites_same [] (t ∷ ts) us h = absurd h
@@ -34,7 +36,7 @@ sites_same (a ∷ xs) (t ∷ ts) [] h = absurd h
 sites_same (a ∷ xs) (t ∷ ts) (u ∷ us) h =
     let later = sites_same xs ts us h.1 in
     let same = site_same h.0 in (
-      ap (λ (n : ℕ). n ∷ map site_in xs) (h.0.site ∙ sym same) ∙ ap (λ (ns : List ℕ). u.site ∷ ns) later.0,
+      ap (λ (n : ℕ). n ∷ map access_site xs) (h.0.site ∙ sym same) ∙ ap (λ (ns : List ℕ). u.site ∷ ns) later.0,
       ap (λ (n : ℕ). n ∷ map touch_site ts) (sym same) ∙ ap (λ (ns : List ℕ). u.site ∷ ns) later.1,
     )
 
@@ -58,8 +60,10 @@ seat [] [] (w ∷ us) h j u e = absurd h
 seat [] (t ∷ ts) us h j u e = absurd h
 seat (a ∷ xs) [] us h j u e = absurd h
 seat (a ∷ xs) (t ∷ ts) [] h j u e = absurd h
-seat (a ∷ xs) (t ∷ ts) (w ∷ us) h zero u e = let is : w ≡ u = cc e in record { a = a; t = t; same = subst (λ (x : Part). Same a t x) is h.0; access = refl; touch = refl }
-seat (a ∷ xs) (t ∷ ts) (w ∷ us) h (suc j) u e = let r = seat xs ts us h.1 j u e in record { a = r.a; t = r.t; same = r.same; access = r.access; touch = r.touch }
+seat (a ∷ xs) (t ∷ ts) (w ∷ us) h zero u e =
+    let is : w ≡ u = cc e in record { a = a; t = t; same = subst (λ (x : Part). Same a t x) is h.0; access = refl; touch = refl }
+seat (a ∷ xs) (t ∷ ts) (w ∷ us) h (suc j) u e =
+    let r = seat xs ts us h.1 j u e in record { a = r.a; t = r.t; same = r.same; access = r.access; touch = r.touch }
 
 -- .. and where none stands, no access does
 pub no_seat : (xs : List Access) (ts : List SiteTouch) (us : List Part) → Aligned xs ts us → (j : ℕ) → slice_get us j ≡ None → slice_get xs j ≡ None
@@ -81,9 +85,11 @@ module _ {X : Type 0} (number : X → ℕ) where
   none_lower : (f : X → Bool) (n k : ℕ) (xs : List X) → Ascends k (map number xs) → n < k → list_any (λ (x : X). (number x == n) && f x) xs ≡ false
   none_lower f n k [] h low = refl
   none_lower f n k (x ∷ xs) h low =
-      ap (λ (b : Bool). (b && f x) || list_any (λ (y : X). (number y == n) && f y) xs) (ne_eqb (number x) n (λ e. omega (arith, e, h.0, low))) ∙ none_lower f n (suc k) xs h.1 (omega (arith, low))
+      ap (λ (b : Bool). (b && f x) || list_any (λ (y : X). (number y == n) && f y) xs) (ne_eqb (number x) n (λ e. omega (arith, e, h.0, low)))
+      ∙ none_lower f n (suc k) xs h.1 (omega (arith, low))
 
-  pub any_at : (f : X → Bool) (k : ℕ) (xs : List X) → Ascends k (map number xs) → (j : ℕ) → list_any (λ (x : X). (number x == k + j) && f x) xs ≡ picked f (slice_get xs j)
+  pub any_at : (f : X → Bool) (k : ℕ) (xs : List X) → Ascends k (map number xs) → (j : ℕ) →
+      list_any (λ (x : X). (number x == k + j) && f x) xs ≡ picked f (slice_get xs j)
   any_at f k [] h j = refl
   any_at f k (x ∷ xs) h zero =
       let here : k + 0 ≡ number x = omega (arith, h.0) in
@@ -100,7 +106,8 @@ located k [] h = tt
 located k (t ∷ ts) h = (
   (omega (arith, h.0), ap (λ (b : Bool). if b then Some t else find t.site ts) (eq-eqb t.site t.site refl)),
   each_map (λ (q : SiteTouch). (suc k ≤ q.site) × (find q.site ts ≡ Some q)) (λ (q : SiteTouch). (k ≤ q.site) × (find q.site (t ∷ ts) ≡ Some q))
-      (λ q r. (omega (arith, r.0), ap (λ (b : Bool). if b then Some t else find q.site ts) (ne_eqb t.site q.site (λ e. omega (arith, e, h.0, r.0))) ∙ r.1)) ts (located (suc k) ts h.1),
+      (λ q r. (omega (arith, r.0), ap (λ (b : Bool). if b then Some t else find q.site ts) (ne_eqb t.site q.site (λ e. omega (arith, e, h.0, r.0))) ∙ r.1)) ts
+      (located (suc k) ts h.1),
 )
 
 -- ---- Booleans
@@ -155,7 +162,8 @@ abbrev pub passed_by : (Storing → Bool) → Option Storing → Bool
 passed_by test None = false
 passed_by test (Some storing) = test storing
 
-pub any_storing : (test : Storing → Bool) (o : Option Storing) (rest : List Storing) → (passed_by test o || list_any test rest) ≡ list_any test (cons_option o rest)
+pub any_storing : (test : Storing → Bool) (o : Option Storing) (rest : List Storing) → (passed_by test o || list_any test rest) ≡ list_any test
+    (cons_option o rest)
 any_storing test None rest = refl
 any_storing test (Some storing) rest = refl
 
@@ -173,4 +181,5 @@ module _ (s : Stmt) (k : ℕ) (goes_up : Ascends k (map part_site (parts None s)
     pub found_at : find u.site (touches s) ≡ Some seat_at.t
     found_at =
         ap (λ (n : ℕ). find n (touches s)) (ap (λ (x : Part). x.site) seat_at.same.part_is)
-        ∙ (each_at (λ (t : SiteTouch). (k ≤ t.site) × (find t.site (touches s) ≡ Some t)) (touches s) (located k (touches s) touches_rise) j seat_at.t seat_at.touch).1
+        ∙ (each_at (λ (t : SiteTouch). (k ≤ t.site) × (find t.site (touches s) ≡ Some t)) (touches s) (located k (touches s) touches_rise) j
+        seat_at.t seat_at.touch).1

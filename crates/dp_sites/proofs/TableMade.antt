@@ -1,5 +1,6 @@
 -- The table that the code makes place by place is the definition's.
-use Rattle.std.proofs.Common.{◌≡◌, refl, sym, ap, ◌∙◌, ℕ, zero, suc, ◌+◌, ◌==◌, Bool, true, false, if◌then◌else◌, List, [], ◌∷◌, map, filter, length, None, arith, eqb-true}
+use Rattle.std.proofs.Common.{◌≡◌, refl, sym, ap, ◌∙◌, ℕ, zero, suc, ◌+◌, ◌==◌, Bool, true, false, if◌then◌else◌, List, [], ◌∷◌, map, filter, length, None}
+use Rattle.std.proofs.Common.{arith, eqb-true}
 use Rattle.std.proofs.lemmas.Bool.{and_parts}
 use Rattle.dp_base.specs.declared.SiteId.{SiteId}
 use Rattle.dp_tree.specs.declared.Expr.{Expr}
@@ -32,7 +33,8 @@ pub passes : (r : ℕ) (all : List Stmt) (s : Stmt) → filter (is_region_at r) 
 passes r [] s e = absurd (cc e)
 passes r (x ∷ all) s e = by (is_region_at r x) refl e (passes r all s)
   where
-    by : (b : Bool) → is_region_at r x ≡ b → (if b then x ∷ filter (is_region_at r) all else filter (is_region_at r) all) ≡ s ∷ [] → (filter (is_region_at r) all ≡ s ∷ [] → is_region_at r s ≡ true) → is_region_at r s ≡ true
+    by : (b : Bool) → is_region_at r x ≡ b → (if b then x ∷ filter (is_region_at r) all else filter (is_region_at r) all) ≡ s ∷ [] →
+        (filter (is_region_at r) all ≡ s ∷ [] → is_region_at r s ≡ true) → is_region_at r s ≡ true
     by true t h later = let same : x ≡ s = cc h in ap (is_region_at r) (sym same) ∙ t
     by false t h later = later h
 
@@ -63,7 +65,8 @@ moved : (f g : ℕ → Bool) (k i n : ℕ) → ((j : ℕ) → f (k + j) ≡ g j)
 moved f g k i zero same = refl
 moved f g k i (suc n) same =
     let next : k + (i + 1) ≡ (k + i) + 1 = omega arith in
-    ap (λ (b : Bool). b ∷ map g (numbers_from (i + 1) n)) (sym (same i)) ∙ ap (λ (bs : List Bool). f (k + i) ∷ bs) (moved f g k (i + 1) n same ∙ ap (λ (m : ℕ). map f (numbers_from m n)) next)
+    ap (λ (b : Bool). b ∷ map g (numbers_from (i + 1) n)) (sym (same i)) ∙ ap (λ (bs : List Bool). f (k + i) ∷ bs) (moved f g k (i + 1) n same
+    ∙ ap (λ (m : ℕ). map f (numbers_from m n)) next)
 
 pub table_made : (p : Program) (plan : Plan) (s : Stmt) → region_in p plan.region ≡ s ∷ [] → goes_up_from (first_site p plan) (part_list None s) ≡ true
     → map (answer_at p plan (part_list None s) (body_at s)) (numbers_from 0 (length plan.stage_of)) ≡ checked_table p plan

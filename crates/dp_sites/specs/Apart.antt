@@ -19,13 +19,13 @@ abbrev pub passes_or : Gap → Part → Option Storing → Bool
 passes_or test u None = false
 passes_or test u (Some d) = lies_apart test u d
 
-abbrev pub stored_at : Gap → Part → Option (Option Storing) → Bool
-stored_at test u None = false
-stored_at test u (Some d) = passes_or test u d
+abbrev pub store_apart_at : Gap → Part → Option (Option Storing) → Bool
+store_apart_at test u None = false
+store_apart_at test u (Some d) = passes_or test u d
 
 abbrev pub loaded_at : Gap → Option Part → Option (Option Storing) → Bool
 loaded_at test None d = false
-loaded_at test (Some u) d = stored_at test u d
+loaded_at test (Some u) d = store_apart_at test u d
 
 -- what the table tells of the store at d and the loads at u
 abbrev pub tells : Gap → Apart → ℕ → ℕ → Bool
@@ -34,4 +34,5 @@ tells test t d u = loaded_at test (slice_get t.parts (u - t.first)) (slice_get t
 -- the table is right about the sites of region r
 abbrev pub TellsApart : Program → ℕ → Apart → Type 0
 TellsApart p r t =
-    (d u : ℕ) → has d (region_sites p r) ≡ true → has u (region_sites p r) ≡ true → (tells Strides t d u ≡ is_far p r d u) × (tells Whole t d u ≡ is_far_within p r d u)
+    (d u : ℕ) → has d (region_sites p r) ≡ true → has u (region_sites p r) ≡ true → (tells Strides t d u ≡ is_far p r d u)
+    × (tells Whole t d u ≡ is_far_within p r d u)

@@ -5,7 +5,7 @@ use Rattle.dp_base.specs.declared.BinOp.TheVariants.{Add, Sub}
 use Rattle.dp_base.specs.declared.VarId.{VarId}
 use Rattle.dp_tree.specs.declared.Expr.{Expr, end_of-Expr, more_of-Expr}
 use Rattle.dp_tree.specs.declared.Expr.TheVariants.{Scalar, Binary'}
-use Rattle.dp_plan.specs.Touch.{number_in}
+use Rattle.dp_plan.specs.Touch.{literal_in}
 use Rattle.dp_plan.specs.IsFar.{apart_by, by_place}
 pub use Rattle.dp_sites.specs.declared.place.Place.{Place}
 pub use Rattle.dp_sites.specs.declared.place.Step.{Step}
@@ -49,8 +49,8 @@ or_place (Some q) other = Some q
 or_place None other = other
 
 abbrev pub added_place : BinOp → Expr → Expr → Option Place
-added_place Add a b = or_place (placed false (scalar_in a) (number_in b)) (placed false (scalar_in b) (number_in a))
-added_place Sub a b = placed true (scalar_in a) (number_in b)
+added_place Add a b = or_place (placed false (scalar_in a) (literal_in b)) (placed false (scalar_in b) (literal_in a))
+added_place Sub a b = placed true (scalar_in a) (literal_in b)
 added_place _ a b = None
 
 -- the place of an index, by the one variable that it names
@@ -60,17 +60,17 @@ place_by (Binary' op _ (more_of-Expr a end_of-Expr) _ (more_of-Expr b end_of-Exp
 place_by _ = None
 
 -- the step of a number of at least 1
-abbrev pub step_by : Bool → Option ℤ → Option Step
-step_by back (Some (pos (suc n))) = Some (record { back = back; beyond = n })
-step_by back _ = None
+abbrev pub stride_of_number : Bool → Option ℤ → Option Step
+stride_of_number back (Some (pos (suc n))) = Some (record { back = back; beyond = n })
+stride_of_number back _ = None
 
-abbrev pub step_from : VarId → Bool → Option VarId → Option ℤ → Option Step
-step_from v back None n = None
-step_from v back (Some x) n = if x.0 == v.0 then step_by back n else None
+abbrev pub stride_from : VarId → Bool → Option VarId → Option ℤ → Option Step
+stride_from v back None n = None
+stride_from v back (Some x) n = if x.0 == v.0 then stride_of_number back n else None
 
 abbrev pub added_step : VarId → BinOp → Expr → Expr → Option Step
-added_step v Add a b = step_from v false (scalar_in a) (number_in b)
-added_step v Sub a b = step_from v true (scalar_in a) (number_in b)
+added_step v Add a b = stride_from v false (scalar_in a) (literal_in b)
+added_step v Sub a b = stride_from v true (scalar_in a) (literal_in b)
 added_step v _ a b = None
 
 -- the step by which the right side moves v
@@ -82,14 +82,14 @@ step_in v _ = None
 unfoldable pub scalar_at : Expr → Option VarId
 scalar_at e = scalar_in e
 
-unfoldable pub number_at : Expr → Option ℤ
-number_at e = number_in e
+unfoldable pub literal_at : Expr → Option ℤ
+literal_at e = literal_in e
 
 unfoldable pub index_place : Expr → Option Place
 index_place e = place_by e
 
-unfoldable pub step_at : VarId → Expr → Option Step
-step_at v e = step_in v e
+unfoldable pub stride_at : VarId → Expr → Option Step
+stride_at v e = step_in v e
 
 -- the two tests of places
 abbrev pub test_of : Gap → ℤ → ℤ → ℤ → Bool

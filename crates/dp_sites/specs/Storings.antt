@@ -1,5 +1,6 @@
 -- The sites of a region that store, and by which of them a load may see what the source doesn't have, as the code finds it.
-use Rattle.std.specs.Prelude.{ℕ, ◌+◌, ◌==◌, if◌then◌else◌, Bool, true, false, not, ◌&&◌, ◌||◌, List, [], ◌∷◌, filter_map, Option, Some, None, slice_get, nat_lt, count_by}
+use Rattle.std.specs.Prelude.{ℕ, ◌+◌, ◌==◌, if◌then◌else◌, Bool, true, false, not, ◌&&◌, ◌||◌, List, [], ◌∷◌, filter_map, Option, Some, None, slice_get, nat_lt}
+use Rattle.std.specs.Prelude.{count_by}
 use Rattle.std.specs.List.{list_all, list_any}
 use Rattle.dp_base.specs.declared.SiteId.{SiteId}
 use Rattle.dp_base.specs.declared.VarId.{VarId}
@@ -8,7 +9,7 @@ use Rattle.dp_tree.specs.declared.Stmt.TheOpen.{Stmt-F, Assign}
 use Rattle.dp_tree.specs.declared.Program.{Program}
 use Rattle.dp_plan.specs.declared.Plan.{Plan}
 use Rattle.dp_plan.specs.Access.{stage_of, is_replicated, is_body_local}
-use Rattle.dp_plan.specs.IsFar.{scalar_in, body_of}
+use Rattle.dp_plan.specs.IsFar.{is_scalar_entry, body_of}
 use Rattle.dp_sites.specs.Place.{Place, Step, Gap, step_in, place_at, stride_in, test_of}
 use Rattle.dp_sites.specs.declared.place.Gap.TheVariants as gap
 use Rattle.dp_sites.specs.steps.Parts.{Part, Touched}
@@ -47,7 +48,7 @@ part_stores v u = is_touched v u.stores
 
 -- v is a scalar, no body local, and one site alone stores it
 abbrev pub is_moved_alone : Program → Plan → List Part → VarId → Bool
-is_moved_alone p plan all v = scalar_in (slice_get p.vars v.0) && (not (is_body_local p plan v.0) && (count_by (part_stores v) all == 1))
+is_moved_alone p plan all v = is_scalar_entry (slice_get p.vars v.0) && (not (is_body_local p plan v.0) && (count_by (part_stores v) all == 1))
 
 abbrev pub moving_with : ℕ → Place → Option Mover → Option Moving
 moving_with site q None = None
@@ -60,7 +61,8 @@ moving_of p plan all body site (Some q) = if plan.proved && is_moved_alone p pla
 
 abbrev pub storing_of : Program → Plan → List Part → List Stmt → ℕ → Option Touched → Option Storing
 storing_of p plan all body site None = None
-storing_of p plan all body site (Some t) = Some (record { site = site; stage = stage_of p plan site; var = t.var; moving = moving_of p plan all body site t.place })
+storing_of p plan all body site (Some t) =
+    Some (record { site = site; stage = stage_of p plan site; var = t.var; moving = moving_of p plan all body site t.place })
 
 abbrev pub storing_at : Program → Plan → List Part → List Stmt → Part → Option Storing
 storing_at p plan all body u = storing_of p plan all body u.site u.stores
@@ -71,7 +73,8 @@ storings p plan all body = filter_map (storing_at p plan all body) all
 
 abbrev pub place_passes : Gap → ℕ → Moving → Option Place → Bool
 place_passes test site m None = false
-place_passes test site m (Some q) = (q.by.0 == m.place.by.0) && test_of test (stride_in m.step) (place_at m.place m.late m.step) (place_at q (nat_lt m.mover site) m.step)
+place_passes test site m (Some q) =
+    (q.by.0 == m.place.by.0) && test_of test (stride_in m.step) (place_at m.place m.late m.step) (place_at q (nat_lt m.mover site) m.step)
 
 -- a load of the array at this site passes the test
 abbrev pub load_passes : Gap → ℕ → VarId → Moving → Touched → Bool
@@ -101,7 +104,8 @@ is_ahead u other = nat_lt u.site other && nat_lt (end_of u) other
 abbrev pub differs_by : Program → Plan → Part → Storing → Bool
 differs_by p plan u d =
     (nat_lt (stage_of p plan u.site) d.stage && not (lies_apart gap.Strides u d && (lies_apart gap.Whole u d || is_ahead u d.site)))
-    || ((is_replicated plan (stage_of p plan u.site) && ((d.stage == stage_of p plan u.site) && not (is_body_local p plan d.var.0))) && not (lies_apart gap.Strides u d))
+    || ((is_replicated plan (stage_of p plan u.site) && ((d.stage == stage_of p plan u.site) && not (is_body_local p plan d.var.0))) && not
+    (lies_apart gap.Strides u d))
 
 -- d stores x, and by that what u sees of x may differ
 abbrev pub stores_otherwise : Program → Plan → Part → VarId → Storing → Bool

@@ -65,7 +65,7 @@ fn passes(test: Gap, part: &Part, storing: Option<Storing>) -> bool
 }
 
 fn passes_at(test: Gap, part: &Part, storing: Option<&Option<Storing>>) -> bool
-    ensures { result ≡ spec.stored_at test part.now (option_copied storing.entry) }
+    ensures { result ≡ spec.store_apart_at test part.now (option_copied storing.entry) }
 {
     match storing {
         None => false,

@@ -1,7 +1,7 @@
 //! The stores of a region, and which of them move evenly with a variable.
 
 ghost use Rattle.std.specs.Prelude.{◌≡◌, ◌==◌, IfOk, count_by, slice_get};
-ghost use Rattle.dp_plan.specs.IsFar.{scalar_in};
+ghost use Rattle.dp_plan.specs.IsFar.{is_scalar_entry};
 ghost use Rattle.dp_sites.specs.Storings as spec;
 
 use crate::part::Part;
@@ -46,7 +46,7 @@ fn mover_by(site: SiteId, step: Option<Step>) -> Option<Mover>
 }
 
 /// The statement, where it moves the variable.
-#[tactic(auto, using(crate::proofs::MoverForms::mover_forms), unfolding(crate::specs::Place::step_at))]
+#[tactic(auto, using(crate::proofs::MoverForms::mover_forms), unfolding(crate::specs::Place::stride_at))]
 fn mover_of(moved: VarId, statement: &Stmt) -> Option<Mover>
     ensures { result ≡ spec.mover_of moved statement.now }
 {
@@ -96,7 +96,7 @@ fn is_stored_once(all: &[Part], var: VarId) -> bool
 }
 
 fn is_scalar(p: &Program, var: VarId) -> bool
-    ensures { result ≡ scalar_in (slice_get p.now.vars var.0) }
+    ensures { result ≡ is_scalar_entry (slice_get p.now.vars var.0) }
 {
     match p.vars.get(var.0 as usize) {
         Some(info) => !info.array,

@@ -93,7 +93,14 @@ impl Inside {
         index: &Expr,
         value: &Expr,
     ) -> Result<(), NoMemory>
-        ensures { OnOk result (out.new ≡ out.old ++ record { site = site.0; loads = spec.loads_in index.now ++ spec.loads_in value.now; stores = Some (record { var = var; place = index_place index.now }); until = self.until } ∷ []) }
+        ensures { OnOk result
+            (out.new ≡ out.old ++
+            record {
+              site = site.0;
+              loads = spec.loads_in index.now ++ spec.loads_in value.now;
+              stores = Some (record { var = var; place = index_place index.now });
+              until = self.until;
+            } ∷ []) }
     {
         let loads = both_loads(self.alloc, index, value)?;
         put_part(out, site, self.until, loads, element(var, index))
@@ -149,7 +156,8 @@ fn put_loop(
     body: &[Stmt],
     cond: &Expr,
 ) -> Result<(), NoMemory>
-    ensures { OnOk result (out.new ≡ out.old ++ record { site = site.0; loads = spec.loads_in cond.now; stores = None; until = inside.until } ∷ spec.part_lists inside.until body.now) }
+    ensures { OnOk result (out.new ≡ out.old ++ record { site = site.0; loads = spec.loads_in cond.now; stores = None; until = inside.until }
+        ∷ spec.part_lists inside.until body.now) }
 {
     inside.put_statement(out, site, cond, None)?;
     put_parts(inside, out, body)?;

@@ -53,7 +53,7 @@ fn scalar(e: &Expr) -> Option<VarId>
 /// The number that the expression is.
 #[tactic(auto, using(crate::proofs::PlaceForms::number_forms))]
 fn number(e: &Expr) -> Option<i64>
-    ensures { result ≡ spec.number_at e.now }
+    ensures { result ≡ spec.literal_at e.now }
 {
     match e {
         Expr::Number(number) => Some(*number),
@@ -76,9 +76,9 @@ fn placed(less: bool, var: Option<VarId>, number: Option<i64>) -> Option<Place>
     Some(Place { by, less, number })
 }
 
-#[tactic(auto, unfolding(crate::specs::Place::scalar_at, crate::specs::Place::number_at))]
+#[tactic(auto, unfolding(crate::specs::Place::scalar_at, crate::specs::Place::literal_at))]
 fn placed_by(less: bool, var: &Expr, other: &Expr) -> Option<Place>
-    ensures { result ≡ spec.placed less (spec.scalar_in var.now) (touch.number_in other.now) }
+    ensures { result ≡ spec.placed less (spec.scalar_in var.now) (touch.literal_in other.now) }
 {
     placed(less, scalar(var), number(other))
 }
@@ -119,7 +119,7 @@ pub fn place_of(index: &Expr) -> Option<Place>
 }
 
 fn step_by(back: bool, number: Option<i64>) -> Option<Step>
-    ensures { result ≡ spec.step_by back number }
+    ensures { result ≡ spec.stride_of_number back number }
 {
     let number = number?;
     if number < 1 {
@@ -131,9 +131,9 @@ fn step_by(back: bool, number: Option<i64>) -> Option<Step>
     })
 }
 
-#[tactic(auto, unfolding(crate::specs::Place::scalar_at, crate::specs::Place::number_at))]
+#[tactic(auto, unfolding(crate::specs::Place::scalar_at, crate::specs::Place::literal_at))]
 fn step_from(moved: VarId, back: bool, var: &Expr, other: &Expr) -> Option<Step>
-    ensures { result ≡ spec.step_from moved back (spec.scalar_in var.now) (touch.number_in other.now) }
+    ensures { result ≡ spec.stride_from moved back (spec.scalar_in var.now) (touch.literal_in other.now) }
 {
     let var = scalar(var)?;
     if var.0 == moved.0 {
@@ -156,7 +156,7 @@ fn added_step(moved: VarId, op: BinOp, a: &Expr, b: &Expr) -> Option<Step>
 /// The step by which the right side of an assignment moves the variable.
 #[tactic(auto, using(crate::proofs::PlaceForms::step_forms))]
 pub fn step_of(moved: VarId, value: &Expr) -> Option<Step>
-    ensures { result ≡ spec.step_at moved value.now }
+    ensures { result ≡ spec.stride_at moved value.now }
 {
     match value {
         Expr::Binary(op, a, b) => added_step(moved, *op, a.get(), b.get()),

@@ -52,7 +52,7 @@ impl Outcome<[u64; 1], View> for Sets {
 pub(crate) struct Looks;
 
 impl Outcome<[u64; 1], View> for Looks {
-    ghost use Rattle.dp_stop.specs.Stops.{Loads};
+    ghost use Rattle.dp_stop.specs.Stops.{LoadsFlag};
 
-    ghost then = { λ v x _ w. Loads v x w };
+    ghost then = { λ v x _ w. LoadsFlag v x w };
 }

@@ -9,8 +9,11 @@ use Rattle.std.proofs.KnownBytes.{Appends-trans, Appends-kept}
 -- a last write took some more
 pub front_and_more : (a b c : Option (List ℕ)) (all done rest : List ℕ) (n : ℕ) → all ≡ done ++ rest
     → Appends a b done → Appends b c (take n rest) → (k : ℕ) × Appends a c (take k all)
-front_and_more a b c all done rest n split first last =
-    (length done + n, subst (Appends a c) (sym (ap (take (length done + n)) split ∙ take-append-add done rest n)) (Appends-trans a b c done (take n rest) first last))
+front_and_more a b c all done rest n split first last = (
+  length done + n,
+  subst (Appends a c) (sym (ap (take (length done + n)) split ∙ take-append-add done rest n)) (Appends-trans a b c done
+      (take n rest) first last),
+)
 
 -- a last write failed
 pub front_alone : (a b c : Option (List ℕ)) (all done rest : List ℕ) → all ≡ done ++ rest

@@ -2,6 +2,6 @@
 use Rattle.std.specs.Prelude.{ℕ}
 
 -- what the shelf has counted
-pub record Counts : Type 0 where
+pub record ShelfCounts : Type 0 where
   pub faults : ℕ
   pub taken : ℕ

@@ -23,16 +23,16 @@ pub struct FileShelf<'a, R: Files> {
 }
 
 impl<'a, R: Files> Model for FileShelf<'a, R> {
-    ghost use Rattle.dp_system.specs.FileShelf.{Counts};
+    ghost use Rattle.dp_system.specs.FileShelf.{ShelfCounts};
 
-    ghost Value = { Counts };
+    ghost Value = { ShelfCounts };
 
     ghost view = { λ shelf. record { faults = shelf.faults; taken = shelf.taken } };
 }
 
 impl<'a, R: Files> FileShelf<'a, R> {
     ghost use Rattle.std.specs.Prelude.{◌≡◌};
-    ghost use Rattle.dp_system.specs.FileShelf.{Counts};
+    ghost use Rattle.dp_system.specs.FileShelf.{ShelfCounts};
 
     /// The files, with no fault met and no byte taken.
     pub fn new(rt: &'a R) -> FileShelf<'a, R>

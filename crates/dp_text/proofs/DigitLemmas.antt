@@ -1,5 +1,6 @@
 -- A number read digit by digit.
-use Rattle.std.proofs.Common.{◌≡◌, ℕ, ◌+◌, ◌-◌, ◌*◌, ◌<◌, ◌≤◌, Bool, true, false, ◌&&◌, nat_le, List, [], ◌∷◌, length, drop, Some, None, slice_index_or, refl, sym, ap, ◌∙◌, rules, arith, le_refl}
+use Rattle.std.proofs.Common.{◌≡◌, ℕ, ◌+◌, ◌-◌, ◌*◌, ◌<◌, ◌≤◌, Bool, true, false, ◌&&◌, nat_le, List, [], ◌∷◌, length, drop, Some, None, slice_index_or, refl}
+use Rattle.std.proofs.Common.{sym, ap, ◌∙◌, rules, arith, le_refl}
 use Rattle.std.specs.Prelude.{if◌then◌else◌}
 use Rattle.std.specs.List.{list_all}
 use Rattle.std.specs.declared.option.Option.{Option}
@@ -38,14 +39,16 @@ module _ (most : ℕ) where
 
   pub after_digits_is : (digits : List ℕ) (n : ℕ) → n ≤ most → after_digits (Some n) digits ≡ kept (list_all is_digit digits) (value_after n digits)
   after_digits_is [] n lt = let fits : nat_le n most ≡ true = search rules in rw fits refl
-  after_digits_is (digit ∷ digits) n lt = digit_case n digit digits (is_digit digit) (nat_le (n * 10 + (digit - 48)) most) refl refl (λ m small. after_digits_is digits m small)
+  after_digits_is (digit ∷ digits) n lt =
+      digit_case n digit digits (is_digit digit) (nat_le (n * 10 + (digit - 48)) most) refl refl (λ m small. after_digits_is digits m small)
 
   value_is : (digits : List ℕ) → value_upto most digits ≡ after_digits (Some 0) digits
   value_is digits = sym (after_digits_is digits 0 (omega arith))
 
   -- at a digit that can't be added there is no number
   pub value_lost : (digits : List ℕ) (i n d : ℕ) → i < length digits
-      → after_digits (Some n) (drop i digits) ≡ after_digits (Some 0) digits → digit_after most n (slice_index_or digits i d) ≡ None → value_upto most digits ≡ None
+      → after_digits (Some n) (drop i digits) ≡ after_digits (Some 0) digits → digit_after most n (slice_index_or digits i d) ≡ None →
+      value_upto most digits ≡ None
   value_lost digits i n d lt so_far none =
       value_is digits ∙ sym so_far ∙ at_drop_more (after_digits (Some n)) digits i d lt ∙ ap (λ o. after_digits o (drop (i + 1) digits)) none
 

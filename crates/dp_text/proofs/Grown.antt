@@ -18,7 +18,8 @@ unfolding labelled
 one_number out one two label n p q = q ∙ rw p (simp append_assoc)
 
 -- three numbers, each behind its label, and LF
-pub three_numbers : (out one two three four label more last : List ℕ) (n m k : ℕ) → one ≡ out ++ labelled label n → two ≡ one ++ labelled more m → three ≡ two ++ labelled last k → four ≡ three ++ 10 ∷ []
+pub three_numbers : (out one two three four label more last : List ℕ) (n m k : ℕ) → one ≡ out ++ labelled label n → two ≡ one ++ labelled more m →
+    three ≡ two ++ labelled last k → four ≡ three ++ 10 ∷ []
     → four ≡ out ++ (label ++ (decimal n ++ (more ++ (decimal m ++ (last ++ (decimal k ++ 10 ∷ []))))))
 unfolding labelled
 three_numbers out one two three four label more last n m k p q r s = s ∙ rw (r, q, p) (simp append_assoc)

@@ -1,10 +1,11 @@
 -- Words that are joined by spaces, and the words of a text.
-use Rattle.std.proofs.Common.{◌≡◌, ℕ, ◌<◌, ◌≤◌, ◌^◌, ◌==◌, Bool, true, false, not, ◌&&◌, nat_le, List, [], ◌∷◌, ◌++◌, decimal, refl, sym, ap, ◌∙◌, rules, arith, tests}
+use Rattle.std.proofs.Common.{◌≡◌, ℕ, ◌<◌, ◌≤◌, ◌^◌, ◌==◌, Bool, true, false, not, ◌&&◌, nat_le, List, [], ◌∷◌, ◌++◌, decimal, refl, sym, ap, ◌∙◌, rules, arith}
+use Rattle.std.proofs.Common.{tests}
 use Rattle.std.specs.List.{list_all}
 use Rattle.dp_text.specs.Digits.{is_digit}
 use Rattle.dp_text.specs.Each.{Each}
 use Rattle.dp_text.specs.Pieces.{onto_first}
-use Rattle.dp_text.specs.Words.{joined, words}
+use Rattle.dp_text.specs.Words.{joined_words, words}
 use Rattle.dp_text.proofs.NumberText.{digits-decimal}
 use Rattle.dp_text.proofs.WordLemmas.{some_word}
 
@@ -39,29 +40,30 @@ abbrev pub AreWords : List (List ℕ) → Type 0
 AreWords [] = ⊥
 AreWords (first ∷ rest) = IsWord first × Each IsWord rest
 
-pub words-joined : (ws : List (List ℕ)) → AreWords ws → words (joined ws) ≡ ws
+pub words-joined : (ws : List (List ℕ)) → AreWords ws → words (joined_words ws) ≡ ws
 words-joined [] are = absurd are
 words-joined (first ∷ []) are = words_last first are.0.0
-words-joined (first ∷ next ∷ rest) are = words_word first (joined (next ∷ rest)) are.0.0 ∙ ap (λ ws. first ∷ ws) (words-joined (next ∷ rest) are.1)
+words-joined (first ∷ next ∷ rest) are = words_word first (joined_words (next ∷ rest)) are.0.0 ∙ ap (λ ws. first ∷ ws) (words-joined (next ∷ rest) are.1)
 
-joined_first : (byte : ℕ) (ws : List (List ℕ)) → joined (onto_first byte ws) ≡ byte ∷ joined ws
+joined_first : (byte : ℕ) (ws : List (List ℕ)) → joined_words (onto_first byte ws) ≡ byte ∷ joined_words ws
 joined_first byte [] = refl
 joined_first byte (word ∷ []) = refl
 joined_first byte (word ∷ next ∷ rest) = refl
 
-joined_case : (byte : ℕ) (text : List ℕ) (is : Bool) → (byte == 32) ≡ is → joined (words text) ≡ text → joined (words (byte ∷ text)) ≡ byte ∷ text
+joined_case : (byte : ℕ) (text : List ℕ) (is : Bool) → (byte == 32) ≡ is → joined_words (words text) ≡ text → joined_words (words (byte ∷ text)) ≡ byte ∷ text
 joined_case byte text true e more =
     let same : byte ≡ 32 = search (rules, tests) in
-    rw e (some_word (λ ws. joined ([] ∷ ws) ≡ 32 ∷ joined ws) (λ _ _. refl) text ∙ ap (λ t. 32 ∷ t) more ∙ ap (λ b. b ∷ text) (sym same))
+    rw e (some_word (λ ws. joined_words ([] ∷ ws) ≡ 32 ∷ joined_words ws) (λ _ _. refl) text ∙ ap (λ t. 32 ∷ t) more ∙ ap (λ b. b ∷ text) (sym same))
 joined_case byte text false e more = rw e (joined_first byte (words text) ∙ ap (λ t. byte ∷ t) more)
 
-pub joined-words : (text : List ℕ) → joined (words text) ≡ text
+pub joined-words : (text : List ℕ) → joined_words (words text) ≡ text
 joined-words [] = refl
 joined-words (byte ∷ text) = joined_case byte text (byte == 32) refl (joined-words text)
 
 -- ---- digits are a word
 
-digit_case : (b byte : ℕ) (ds : List ℕ) (low high : Bool) → b < 48 → nat_le 48 byte ≡ low → nat_le byte 57 ≡ high → ((low && high) && list_all is_digit ds) ≡ true
+digit_case : (b byte : ℕ) (ds : List ℕ) (low high : Bool) → b < 48 → nat_le 48 byte ≡ low → nat_le byte 57 ≡ high →
+    ((low && high) && list_all is_digit ds) ≡ true
     → (list_all is_digit ds ≡ true → lacks b ds ≡ true) → (not (byte == b) && lacks b ds) ≡ true
 digit_case b byte ds true true small e f h more =
     let above : 48 ≤ byte = search rules in

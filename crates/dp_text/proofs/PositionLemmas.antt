@@ -9,7 +9,8 @@ some_case : (n len k : ℕ) (found : Bool) → nat_lt n len ≡ found → cond f
 some_case n len k true e h = (cc h, search rules)
 some_case n len k false e h = absurd (cc h)
 
-pub position_some : (test : ℕ → Bool) (text : List ℕ) (k : ℕ) → position test text ≡ Some k → (k ≡ position_or_len test text) × (position_or_len test text < length text)
+pub position_some : (test : ℕ → Bool) (text : List ℕ) (k : ℕ) → position test text ≡ Some k → (k ≡ position_or_len test text)
+    × (position_or_len test text < length text)
 position_some test text k h = some_case (position_or_len test text) (length text) k _ refl h
 
 none_case : (n len : ℕ) (found : Bool) → nat_lt n len ≡ found → cond found (Some n) None ≡ None → len ≤ n

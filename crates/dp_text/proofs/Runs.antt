@@ -1,11 +1,12 @@
 -- The lines of a text, read one after the other, whatever lines they are.
-use Rattle.std.proofs.Common.{◌≡◌, ℕ, suc, ◌+◌, ◌≤◌, ◌==◌, Bool, true, false, not, cond, List, [], ◌∷◌, ◌++◌, map, length, Option, Some, None, refl, sym, ap, ◌∙◌, rules, arith, tests}
+use Rattle.std.proofs.Common.{◌≡◌, ℕ, suc, ◌+◌, ◌≤◌, ◌==◌, Bool, true, false, not, cond, List, [], ◌∷◌, ◌++◌, map, length, Option, Some, None, refl, sym, ap}
+use Rattle.std.proofs.Common.{◌∙◌, rules, arith, tests}
 use Rattle.std.specs.Prelude.{if◌then◌else◌}
 use Rattle.std.specs.Str.{bytes_eq}
 use Rattle.std.proofs.lemmas.Slice.Eq.{bytes_eq-Decides}
 use Rattle.dp_text.specs.Each.{Each}
 use Rattle.dp_text.specs.Lines.{chomped, onto_text}
-use Rattle.dp_text.specs.Words.{joined, words}
+use Rattle.dp_text.specs.Words.{joined_words, words}
 use Rattle.dp_text.proofs.WordLemmas.{first_end}
 use Rattle.dp_text.proofs.JoinLemmas.{AreWords, words-joined, joined-words}
 
@@ -20,16 +21,19 @@ single_case byte text true e h =
     let none : [] ≡ text = cc h in let lf : byte ≡ 10 = search (rules, tests) in ap (λ b. b ∷ []) lf ∙ ap (λ t. t ++ 10 ∷ []) none
 single_case byte text false e h = absurd (cc h)
 
-onto_case : (byte : ℕ) (line text : List ℕ) (o : Option (List ℕ)) → chomped line ≡ o → onto_text byte o ≡ Some text → ((t : List ℕ) → chomped line ≡ Some t → line ≡ t ++ 10 ∷ []) → byte ∷ line ≡ text ++ 10 ∷ []
+onto_case : (byte : ℕ) (line text : List ℕ) (o : Option (List ℕ)) → chomped line ≡ o → onto_text byte o ≡ Some text →
+    ((t : List ℕ) → chomped line ≡ Some t → line ≡ t ++ 10 ∷ []) → byte ∷ line ≡ text ++ 10 ∷ []
 onto_case byte line text None e h more = absurd (cc h)
 onto_case byte line text (Some t) e h more = let is : byte ∷ t ≡ text = cc h in ap (λ l. byte ∷ l) (more t e) ∙ ap (λ x. x ++ 10 ∷ []) is
 
 pub chomped-sound : (line text : List ℕ) → chomped line ≡ Some text → line ≡ text ++ 10 ∷ []
 chomped-sound [] text h = absurd (cc h)
 chomped-sound (byte ∷ []) text h = single_case byte text (byte == 10) refl h
-chomped-sound (byte ∷ next_byte ∷ rest) text h = onto_case byte (next_byte ∷ rest) text (chomped (next_byte ∷ rest)) refl h (λ t. chomped-sound (next_byte ∷ rest) t)
+chomped-sound (byte ∷ next_byte ∷ rest) text h =
+    onto_case byte (next_byte ∷ rest) text (chomped (next_byte ∷ rest)) refl h (λ t. chomped-sound (next_byte ∷ rest) t)
 
-without_case : (byte : ℕ) (rest : List ℕ) (is : Bool) → (byte == 10) ≡ is → length (byte ∷ rest) ≤ cond (not (byte == 10)) (1 + first_end 10 rest) 0 → (is ≡ false) × (length rest ≤ first_end 10 rest)
+without_case : (byte : ℕ) (rest : List ℕ) (is : Bool) → (byte == 10) ≡ is → length (byte ∷ rest) ≤ cond (not (byte == 10)) (1 + first_end 10 rest) 0 →
+    (is ≡ false) × (length rest ≤ first_end 10 rest)
 without_case byte rest true e le = let none : suc (length rest) ≤ 0 = rw e at le in absurd (omega (arith, none))
 without_case byte rest false e le = let long : suc (length rest) ≤ 1 + first_end 10 rest = rw e at le in (refl, omega (arith, long))
 
@@ -50,7 +54,8 @@ pub same_word : (a b : List ℕ) → bytes_eq a b ≡ true → a ≡ b
 same_word a b h = (bytes_eq-Decides a b).0 h
 
 -- one test of the first word: the line that follows it, or the other tests
-pub choice : {Line : Type 0} (Is : List (List ℕ) → Line → Type 0) (label word : List ℕ) (ws : List (List ℕ)) (l : Line) (is : Bool) (this other : Option Line) → bytes_eq label word ≡ is
+pub choice : {Line : Type 0} (Is : List (List ℕ) → Line → Type 0) (label word : List ℕ) (ws : List (List ℕ)) (l : Line) (is : Bool) (this other : Option Line) →
+    bytes_eq label word ≡ is
     → (this ≡ Some l → Is (word ∷ ws) l) → (other ≡ Some l → Is (label ∷ ws) l) → (if is then this else other) ≡ Some l → Is (label ∷ ws) l
 choice Is label word ws l true this other e here there h = rw (same_word label word e) (here h)
 choice Is label word ws l false this other e here there h = there h
@@ -84,7 +89,7 @@ module _ {Line Reader : Type 0} (g : Grammar Line Reader) where
   open g use {words_of, Fits, line_of, are_words, line_back, sound, next_by}
 
   abbrev pub line_bytes : Line → List ℕ
-  line_bytes l = joined (words_of l) ++ 10 ∷ []
+  line_bytes l = joined_words (words_of l) ++ 10 ∷ []
 
   abbrev pub next : Reader → Line → Option Reader
   next s l = next_by s (Some l)
@@ -98,7 +103,8 @@ module _ {Line Reader : Type 0} (g : Grammar Line Reader) where
   read_bytes bytes = read_text (chomped bytes)
 
   pub read_bytes-line : (l : Line) → Fits l → read_bytes (line_bytes l) ≡ Some l
-  read_bytes-line l fits = ap read_text (chomped-line (joined (words_of l))) ∙ ap line_of (words-joined (words_of l) (are_words l fits)) ∙ line_back l fits
+  read_bytes-line l fits =
+      ap read_text (chomped-line (joined_words (words_of l))) ∙ ap line_of (words-joined (words_of l) (are_words l fits)) ∙ line_back l fits
 
   pub record IsBytes (bytes : List ℕ) (l : Line) : Type 0 where
     pub are : bytes ≡ line_bytes l
@@ -108,7 +114,7 @@ module _ {Line Reader : Type 0} (g : Grammar Line Reader) where
   bytes_case bytes l None e h = absurd (cc h)
   bytes_case bytes l (Some text) e h =
       let i : WordsOf words_of Fits (words text) l = sound (words text) l h in
-      record { are = chomped-sound bytes text e ∙ ap (λ t. t ++ 10 ∷ []) (sym (joined-words text) ∙ ap joined i.are); fits = i.fits }
+      record { are = chomped-sound bytes text e ∙ ap (λ t. t ++ 10 ∷ []) (sym (joined-words text) ∙ ap joined_words i.are); fits = i.fits }
 
   pub read_bytes-sound : (bytes : List ℕ) (l : Line) → read_bytes bytes ≡ Some l → IsBytes bytes l
   read_bytes-sound bytes l h = bytes_case bytes l _ refl h

@@ -1,11 +1,12 @@
 -- A text that is read up to a line, and what it is read as, whatever lines it has.
-use Rattle.std.proofs.Common.{◌≡◌, ℕ, ◌+◌, ◌≤◌, Bool, true, false, if◌then◌else◌, List, [], ◌∷◌, ◌++◌, map, length, take, Option, Some, None, refl, sym, ap, subst, ◌∙◌, append_assoc, append-nil, length-append, arith}
+use Rattle.std.proofs.Common.{◌≡◌, ℕ, ◌+◌, ◌≤◌, Bool, true, false, if◌then◌else◌, List, [], ◌∷◌, ◌++◌, map, length, take, Option, Some, None, refl, sym, ap}
+use Rattle.std.proofs.Common.{subst, ◌∙◌, append_assoc, append-nil, length-append, arith}
 use Rattle.std.proofs.Math.Seq.{take-append_seam}
 use Rattle.std.proofs.lemmas.List.{map-append, take-append-le}
 use Rattle.dp_text.specs.declared.lines.Reading.{Reading}
 use Rattle.dp_text.specs.declared.lines.Reading.TheVariants.{Over, Refused}
 use Rattle.dp_text.specs.Lines.{lines_of, chomped, after_line, go_on, read_from}
-use Rattle.dp_text.specs.Refused.{Begins, IsRefusedAt, at_line, at_end}
+use Rattle.dp_text.specs.Refused.{BeginsText, IsRefusedAt, at_line, at_end}
 use Rattle.dp_text.specs.Words.{words}
 use Rattle.dp_text.proofs.RefusedOnce.{text_begins}
 use Rattle.dp_text.proofs.Runs.{Grammar, IsBytes, line_bytes, read_text, read_bytes, read_bytes-sound, run_bytes, run_bytes-none, run_bytes-append}
@@ -35,7 +36,8 @@ module _ {Line Reader : Type 0} (g : Grammar Line Reader) where
   next_case o s None h = absurd (cc (sym (no_line o) ∙ h))
   next_case o s (Some line) h = (line, refl, h)
 
-  reached_next : (o s : Reader) (done : List (List ℕ)) (bytes : List ℕ) → Reached o done → next_by o (read_bytes g bytes) ≡ Some s → Reached s (done ++ bytes ∷ [])
+  reached_next : (o s : Reader) (done : List (List ℕ)) (bytes : List ℕ) → Reached o done → next_by o (read_bytes g bytes) ≡ Some s →
+      Reached s (done ++ bytes ∷ [])
   reached_next o s done bytes r h =
       let c = next_case o s (read_bytes g bytes) h in let b : IsBytes g bytes c.0 = read_bytes-sound g bytes c.0 c.1 in
       record {
@@ -55,15 +57,16 @@ module _ {Line Reader : Type 0} {g : Grammar Line Reader} {Text : List (List ℕ
   open t use {runs_over, reads_on}
 
   -- one begins with the first of the lines that have been read
-  fronts : (s : Reader) (done rest : List (List ℕ)) (k : ℕ) → Reached g s done → k ≤ length done → Begins Text (take k (done ++ rest))
+  fronts : (s : Reader) (done rest : List (List ℕ)) (k : ℕ) → Reached g s done → k ≤ length done → BeginsText Text (take k (done ++ rest))
   fronts s done rest k r le =
       let on = reads_on s r.lines r.reads in
       let ends = map (line_bytes g) on.0 in
       let all : Text (done ++ map (line_bytes g) on.0) = subst Text (map-append (line_bytes g) r.lines on.0 ∙ ap (λ d. d ++ ends) (sym r.are)) on.1 in
-      subst (Begins Text) (take-append-le k done ends le ∙ sym (take-append-le k done rest le)) (text_begins Text k (done ++ ends) all)
+      subst (BeginsText Text) (take-append-le k done ends le ∙ sym (take-append-le k done rest le)) (text_begins Text k (done ++ ends) all)
 
   -- none begins with these and a line that can't stand
-  not_begun : (s : Reader) (done : List (List ℕ)) (bytes : List ℕ) → Reached g s done → next_by s (read_bytes g bytes) ≡ None → ¬ Begins Text (done ++ bytes ∷ [])
+  not_begun : (s : Reader) (done : List (List ℕ)) (bytes : List ℕ) → Reached g s done → next_by s (read_bytes g bytes) ≡ None →
+      ¬ BeginsText Text (done ++ bytes ∷ [])
   not_begun s done bytes r h b =
       let over = runs_over ((done ++ bytes ∷ []) ++ b.0) b.1 in
       let none : run_bytes g (Some begun) ((done ++ bytes ∷ []) ++ b.0) ≡ None =
@@ -79,7 +82,8 @@ module _ {Line Reader : Type 0} {g : Grammar Line Reader} {Text : List (List ℕ
 
   module _ (lines : List (List ℕ)) where
     -- the next line can't stand
-    refused_at : (s : Reader) (done : List (List ℕ)) (bytes : List ℕ) (rest : List (List ℕ)) (number : ℕ) → Reached g s done → lines ≡ done ++ bytes ∷ rest → number ≡ length done + 1
+    refused_at : (s : Reader) (done : List (List ℕ)) (bytes : List ℕ) (rest : List (List ℕ)) (number : ℕ) → Reached g s done → lines ≡ done ++ bytes ∷ rest →
+        number ≡ length done + 1
         → next_by s (read_bytes g bytes) ≡ None → IsRefusedAt Text lines number
     refused_at s done bytes rest number r split count h =
         let all : lines ≡ (done ++ bytes ∷ []) ++ rest = split ∙ sym (append_assoc done (bytes ∷ []) rest) in
@@ -88,25 +92,27 @@ module _ {Line Reader : Type 0} {g : Grammar Line Reader} {Text : List (List ℕ
         let front : take number lines ≡ done ++ bytes ∷ [] =
         ap (λ k. take k lines) (count ∙ sym long) ∙ ap (take (length (done ++ bytes ∷ []))) all ∙ take-append_seam (done ++ bytes ∷ []) rest in
         at_line number (omega (arith, count)) (omega (arith, full, long, count))
-        (λ k lt. subst (λ (ls : List (List ℕ)). Begins Text (take k ls)) (sym split) (fronts s done (bytes ∷ rest) k r (omega (arith, lt, count))))
-        (subst (λ (ls : List (List ℕ)). ¬ Begins Text ls) (sym front) (not_begun s done bytes r h))
+        (λ k lt. subst (λ (ls : List (List ℕ)). BeginsText Text (take k ls)) (sym split) (fronts s done (bytes ∷ rest) k r (omega (arith, lt, count))))
+        (subst (λ (ls : List (List ℕ)). ¬ BeginsText Text ls) (sym front) (not_begun s done bytes r h))
 
     -- the text ends there, and isn't over
     refused_end : (s : Reader) (number : ℕ) → Reached g s lines → number ≡ length lines + 1 → is_over s ≡ false → IsRefusedAt Text lines number
     refused_end s number r count other =
         at_end number count
-        (λ k lt. subst (λ (ls : List (List ℕ)). Begins Text (take k ls)) (append-nil lines) (fronts s lines [] k r (omega (arith, lt, count))))
+        (λ k lt. subst (λ (ls : List (List ℕ)). BeginsText Text (take k ls)) (append-nil lines) (fronts s lines [] k r (omega (arith, lt, count))))
         (λ x.
         let over = runs_over lines x in
         let same : over.0 ≡ s = cc (sym over.1 ∙ r.runs) in
         let no : false ≡ true = sym other ∙ ap is_over (sym same) ∙ over.2 in
         cc no)
 
-    end_case : (s : Reader) (number : ℕ) (over : Bool) → is_over s ≡ over → Reached g s lines → number ≡ length lines + 1 → AreRead lines (if over then Over s else Refused number)
+    end_case : (s : Reader) (number : ℕ) (over : Bool) → is_over s ≡ over → Reached g s lines → number ≡ length lines + 1 →
+        AreRead lines (if over then Over s else Refused number)
     end_case s number true is r count = (r, is)
     end_case s number false is r count = refused_end s number r count is
 
-    line_case : (s : Reader) (done : List (List ℕ)) (bytes : List ℕ) (rest : List (List ℕ)) (number : ℕ) (o : Option Reader) → next_by s (read_bytes g bytes) ≡ o
+    line_case : (s : Reader) (done : List (List ℕ)) (bytes : List ℕ) (rest : List (List ℕ)) (number : ℕ) (o : Option Reader) →
+        next_by s (read_bytes g bytes) ≡ o
         → Reached g s done → lines ≡ done ++ bytes ∷ rest → number ≡ length done + 1
         → ((later : Reader) → Reached g later (done ++ bytes ∷ []) → AreRead lines (read_from (next_text g) is_over (number + 1) later rest))
         → AreRead lines (go_on number o (λ later. read_from (next_text g) is_over (number + 1) later rest))
@@ -117,11 +123,14 @@ module _ {Line Reader : Type 0} {g : Grammar Line Reader} {Text : List (List ℕ
         → AreRead lines (read_from (next_text g) is_over number s rest)
     read_on done [] s number r split count =
         let whole : lines ≡ done = split ∙ append-nil done in
-        end_case s number (is_over s) refl (subst (λ (ls : List (List ℕ)). Reached g s ls) (sym whole) r) (count ∙ ap (λ (ls : List (List ℕ)). length ls + 1) (sym whole))
+        end_case s number (is_over s) refl (subst (λ (ls : List (List ℕ)). Reached g s ls) (sym whole) r) (count
+        ∙ ap (λ (ls : List (List ℕ)). length ls + 1) (sym whole))
     read_on done (bytes ∷ rest) s number r split count =
-        subst (λ (o : Option Reader). AreRead lines (go_on number o (λ later. read_from (next_text g) is_over (number + 1) later rest))) (sym (after_is g s (chomped bytes)))
+        subst (λ (o : Option Reader). AreRead lines (go_on number o (λ later. read_from (next_text g) is_over (number + 1) later rest)))
+        (sym (after_is g s (chomped bytes)))
         (line_case s done bytes rest number (next_by s (read_bytes g bytes)) refl r split count
-        (λ later reached. read_on (done ++ bytes ∷ []) rest later (number + 1) reached (split ∙ sym (append_assoc done (bytes ∷ []) rest)) (omega (arith, count, length-append done (bytes ∷ [])))))
+        (λ later reached. read_on (done ++ bytes ∷ []) rest later (number + 1) reached (split ∙ sym (append_assoc done (bytes ∷ []) rest))
+        (omega (arith, count, length-append done (bytes ∷ [])))))
 
   pub are_read : (bytes : List ℕ) → AreRead (lines_of bytes) (read_from (next_text g) is_over 1 begun (lines_of bytes))
   are_read bytes = read_on (lines_of bytes) [] (lines_of bytes) begun 1 (reached_start g) refl refl

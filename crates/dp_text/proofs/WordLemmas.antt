@@ -1,5 +1,6 @@
 -- The first word of a line and the words behind it.
-use Rattle.std.proofs.Common.{◌≡◌, ℕ, suc, ◌+◌, ◌<◌, ◌≤◌, ◌==◌, Bool, true, false, not, cond, List, [], ◌∷◌, length, take, drop, Option, Some, None, refl, sym, ap, ◌∙◌, arith}
+use Rattle.std.proofs.Common.{◌≡◌, ℕ, suc, ◌+◌, ◌<◌, ◌≤◌, ◌==◌, Bool, true, false, not, cond, List, [], ◌∷◌, length, take, drop, Option, Some, None, refl, sym}
+use Rattle.std.proofs.Common.{ap, ◌∙◌, arith}
 use Rattle.std.specs.List.{position, position_or_len}
 use Rattle.dp_text.specs.Pieces.{onto_first}
 use Rattle.dp_text.specs.Words.{words}
@@ -16,7 +17,8 @@ words_case byte text true e n more lt = rw e refl
 words_case byte text false e n more lt =
     let long : (1 + n) < suc (length text) = rw e at lt in let short : n < length text = omega (arith, long) in
     let plus : (1 + n) + 1 ≡ suc (n + 1) = omega arith in
-    rw e (ap (onto_first byte) (more short) ∙ sym (ap (λ k. take k (byte ∷ text) ∷ words (drop ((1 + n) + 1) (byte ∷ text))) (next_is n) ∙ ap (λ k. (byte ∷ take n text) ∷ words (drop k (byte ∷ text))) plus))
+    rw e (ap (onto_first byte) (more short) ∙ sym (ap (λ k. take k (byte ∷ text) ∷ words (drop ((1 + n) + 1) (byte ∷ text))) (next_is n)
+    ∙ ap (λ k. (byte ∷ take n text) ∷ words (drop k (byte ∷ text))) plus))
 
 -- up to the first space
 pub words_front : (text : List ℕ) → first_end 32 text < length text → words text ≡ take (first_end 32 text) text ∷ words (drop (first_end 32 text + 1) text)
@@ -47,11 +49,13 @@ at_space text len h =
 
 -- ---- there is always a word
 
-first_case : (P : List (List ℕ) → Type 0) (byte : ℕ) (pieces : List (List ℕ)) → ((word : List ℕ) (rest : List (List ℕ)) → P (word ∷ rest)) → P (onto_first byte pieces)
+first_case : (P : List (List ℕ) → Type 0) (byte : ℕ) (pieces : List (List ℕ)) → ((word : List ℕ) (rest : List (List ℕ)) → P (word ∷ rest)) →
+    P (onto_first byte pieces)
 first_case P byte [] full = full (byte ∷ []) []
 first_case P byte (first ∷ rest) full = full (byte ∷ first) rest
 
-space_case : (P : List (List ℕ) → Type 0) (byte : ℕ) (text : List ℕ) (is : Bool) → (byte == 32) ≡ is → ((word : List ℕ) (rest : List (List ℕ)) → P (word ∷ rest)) → P (words (byte ∷ text))
+space_case : (P : List (List ℕ) → Type 0) (byte : ℕ) (text : List ℕ) (is : Bool) → (byte == 32) ≡ is →
+    ((word : List ℕ) (rest : List (List ℕ)) → P (word ∷ rest)) → P (words (byte ∷ text))
 space_case P byte text true e full = rw e (full [] (words text))
 space_case P byte text false e full = rw e (first_case P byte (words text) full)
 
@@ -60,5 +64,6 @@ some_word P full [] = full [] []
 some_word P full (byte ∷ text) = space_case P byte text (byte == 32) refl full
 
 -- words that are no line with one more aren't one with several
-pub no_more : {Line : Type 0} (f : List (List ℕ) → Option Line) → ((word : List ℕ) (rest : List (List ℕ)) → f (word ∷ rest) ≡ None) → (text : List ℕ) → f (words text) ≡ None
+pub no_more : {Line : Type 0} (f : List (List ℕ) → Option Line) → ((word : List ℕ) (rest : List (List ℕ)) → f (word ∷ rest) ≡ None) → (text : List ℕ) →
+    f (words text) ≡ None
 no_more f none = some_word (λ ws. f ws ≡ None) none

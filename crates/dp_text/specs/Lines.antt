@@ -38,4 +38,5 @@ go_on number (Some state) later = later state
 -- what becomes of lines that are read from this state on, where the first has this number
 abbrev pub read_from : {S : Type 0} → (S → List ℕ → Option S) → (S → Bool) → ℕ → S → List (List ℕ) → Reading S
 read_from next is_over number state [] = if is_over state then Over state else Refused number
-read_from next is_over number state (line ∷ rest) = go_on number (after_line next state (chomped line)) (λ later. read_from next is_over (number + 1) later rest)
+read_from next is_over number state (line ∷ rest) =
+    go_on number (after_line next state (chomped line)) (λ later. read_from next is_over (number + 1) later rest)

@@ -13,21 +13,21 @@ words_behind None = []
 words_behind (Some text) = words text
 
 -- words with single spaces between
-abbrev pub joined : List (List ℕ) → List ℕ
-joined [] = []
-joined (word ∷ []) = word
-joined (word ∷ next ∷ rest) = word ++ 32 ∷ joined (next ∷ rest)
+abbrev pub joined_words : List (List ℕ) → List ℕ
+joined_words [] = []
+joined_words (word ∷ []) = word
+joined_words (word ∷ next ∷ rest) = word ++ 32 ∷ joined_words (next ∷ rest)
 
 -- there is a byte, and the first of several isn't 0
-abbrev pub is_plain : List ℕ → Bool
-is_plain [] = false
-is_plain (byte ∷ []) = true
-is_plain (byte ∷ next ∷ rest) = not (byte == 48)
+abbrev pub is_plain_digits : List ℕ → Bool
+is_plain_digits [] = false
+is_plain_digits (byte ∷ []) = true
+is_plain_digits (byte ∷ next ∷ rest) = not (byte == 48)
 
 -- the number that a word writes without leading zeros, where it is at most `most`
 abbrev pub number_upto : ℕ → List ℕ → Option ℕ
-number_upto most word = if is_plain word then value_upto most word else None
+number_upto most word = if is_plain_digits word then value_upto most word else None
 
 -- the same, where it has 32 bits
-abbrev pub number_of : List ℕ → Option ℕ
-number_of word = number_upto 4294967295 word
+abbrev pub small_number : List ℕ → Option ℕ
+small_number word = number_upto 4294967295 word

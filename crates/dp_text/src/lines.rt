@@ -38,7 +38,8 @@ fn first_end(text: &[u8]) -> Option<usize>
 
 /// The first line without its LF, and what follows it.
 pub fn next_line(text: &[u8]) -> Option<(&[u8], &[u8])>
-    ensures lines { MatchOption result (position (λ byte. byte == 10) text.now ≡ None) (λ next. lines_of text.now ≡ (next.0.now ++ 10 ∷ []) ∷ lines_of next.1.now) }
+    ensures lines { MatchOption result (position (λ byte. byte == 10) text.now ≡ None) (λ next. lines_of text.now ≡ (next.0.now ++ 10 ∷ [])
+        ∷ lines_of next.1.now) }
     ensures shorter { IfSome result (λ next. length next.1.now < length text.now) }
 {
     let len = first_end(text)?;

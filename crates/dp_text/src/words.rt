@@ -29,7 +29,7 @@ pub fn next_word(text: &[u8]) -> (&[u8], Option<&[u8]>)
 }
 
 fn is_plain(word: &[u8]) -> bool
-    ensures { result ≡ spec.is_plain word.now }
+    ensures { result ≡ spec.is_plain_digits word.now }
 {
     match word {
         [] => false,
@@ -52,7 +52,7 @@ pub fn number_upto(most: u64, word: &[u8]) -> Option<u64>
 
 /// The same of a number of 32 bits.
 pub fn number(word: &[u8]) -> Option<u32>
-    ensures { result ≡ spec.number_of word.now }
+    ensures { result ≡ spec.small_number word.now }
 {
     let number = number_upto(4_294_967_295, word)?;
     Some(number as u32)

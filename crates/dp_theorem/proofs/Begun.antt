@@ -1,5 +1,6 @@
 -- A run that begins within `main` begins before the region, in an iteration, or beyond it.
-use Rattle.dp_semantics.proofs.Names.{◌≡◌, ◌⊎◌, inl, inr, refl, sym, ap, ◌∙◌, append_assoc, true, List, [], ◌∷◌, ◌++◌, ℕ, list_all, list_all-append, and_parts, and_from, Stmt, Program, Config, StandsInMain, is_free}
+use Rattle.dp_semantics.proofs.Names.{◌≡◌, ◌⊎◌, inl, inr, refl, sym, ap, ◌∙◌, append_assoc, true, List, [], ◌∷◌, ◌++◌, ℕ, list_all, list_all-append, and_parts}
+use Rattle.dp_semantics.proofs.Names.{and_from, Stmt, Program, Config, StandsInMain, is_free}
 use Rattle.dp_tree.specs.Numbering.{is_inner}
 use Rattle.dp_semantics.proofs.Setting.{all_free}
 use Rattle.dp_theorem.proofs.Regions.{inner_free}
@@ -7,7 +8,8 @@ use Rattle.dp_theorem.proofs.Regions.{inner_free}
 module _ (r : ℕ) where
   free_plain_all : (xs : List Stmt) → list_all is_inner xs ≡ true → all_free r xs ≡ true
   free_plain_all [] w = refl
-  free_plain_all (x ∷ xs) w = let both = and_parts (is_inner x) (list_all is_inner xs) w in and_from (is_free r x) (all_free r xs) (inner_free r x both.0) (free_plain_all xs both.1)
+  free_plain_all (x ∷ xs) w = let both = and_parts (is_inner x) (list_all is_inner xs) w in
+      and_from (is_free r x) (all_free r xs) (inner_free r x both.0) (free_plain_all xs both.1)
 
   free_join : (a b : List Stmt) → all_free r a ≡ true → all_free r b ≡ true → all_free r (a ++ b) ≡ true
   free_join a b h k = list_all-append (is_free r) a b ∙ and_from (all_free r a) (all_free r b) h k
@@ -21,7 +23,8 @@ module _ (r : ℕ) where
     pub is : rest ≡ between ++ statement ∷ tail
     pub free : all_free r between ≡ true
 
-  left_of : (statement : Stmt) (tail : List Stmt) → all_free r tail ≡ true → (before rest front : List Stmt) → before ++ rest ≡ front ++ statement ∷ tail → all_free r front ≡ true →
+  left_of : (statement : Stmt) (tail : List Stmt) → all_free r tail ≡ true → (before rest front : List Stmt) → before ++ rest ≡ front ++ statement ∷ tail →
+      all_free r front ≡ true →
       Ahead statement tail rest ⊎ (all_free r rest ≡ true)
   left_of statement tail after [] rest front e w = inl (record { between = front; is = e; free = w })
   left_of statement tail after (x ∷ before) rest [] e w = let more : before ++ rest ≡ tail = cc in inr (free_behind before rest tail more after)
@@ -30,7 +33,8 @@ module _ (r : ℕ) where
       left_of statement tail after before rest front more (and_parts (is_free r y) (all_free r front) w).1
 
   -- what such a configuration has to do: statements without the region before it, or none with the region
-  pub reach : {p : Program} {c : Config} (statement : Stmt) (tail front : List Stmt) → p.main ≡ front ++ statement ∷ tail → all_free r front ≡ true → all_free r tail ≡ true → (s : StandsInMain p c) →
+  pub reach : {p : Program} {c : Config} (statement : Stmt) (tail front : List Stmt) → p.main ≡ front ++ statement ∷ tail → all_free r front ≡ true →
+      all_free r tail ≡ true → (s : StandsInMain p c) →
       Ahead statement tail (s.inner ++ s.behind) ⊎ (all_free r (s.inner ++ s.behind) ≡ true)
   reach statement tail front main before after s = by (left_of statement tail after s.before s.behind front (sym s.main_is ∙ main) before)
     where

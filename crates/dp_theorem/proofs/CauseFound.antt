@@ -1,5 +1,8 @@
 -- At an iteration whose epoch's earlier iterations are clean, the walk finds the cause.
-use Rattle.dp_semantics.proofs.Names.{◌≡◌, ◌⊎◌, inl, inr, refl, sym, ap, ◌∙◌, subst, ℕ, zero, suc, ◌+◌, ◌-◌, ◌<◌, ◌≤◌, Bool, true, false, ◌&&◌, ◌||◌, List, [], ◌∷◌, ℤ, length, Option, Some, None, Err, is_some, arith, both_ways, and_parts, or-true, FaultKind, Stmt, out-Stmt, Program, Plan, Config, Run, StandsInMain, evaluated, site_of, starts, start, iteration, is_closing, has_ended, memory_after, Past, events_since, is_clean, CleanSince}
+use Rattle.dp_semantics.proofs.Names.{◌≡◌, ◌⊎◌, inl, inr, refl, sym, ap, ◌∙◌, subst, ℕ, zero, suc, ◌+◌, ◌-◌, ◌<◌, ◌≤◌, Bool, true, false, ◌&&◌, ◌||◌, List, []}
+use Rattle.dp_semantics.proofs.Names.{◌∷◌, ℤ, length, Option, Some, None, Err, is_some, arith, both_ways, and_parts, or-true, FaultKind, Stmt, out-Stmt}
+use Rattle.dp_semantics.proofs.Names.{Program, Plan, Config, Run, StandsInMain, evaluated, site_of, starts, start, iteration, is_closing, has_ended}
+use Rattle.dp_semantics.proofs.Names.{memory_after, Past, events_since, is_clean, CleanSince}
 use Rattle.std.proofs.Common.{is_none}
 use Rattle.dp_base.specs.declared.End.{End}
 use Rattle.dp_base.specs.declared.End.TheVariants as run_end
@@ -23,11 +26,13 @@ unfolding cause_walk
 none_at_end p plan input zero w cells = refl
 none_at_end p plan input (suc m) w cells = refl
 
-some_when_spent : (p : Program) (plan : Plan) (input : List ℤ) (w : Watch) (x : Stmt) (rest : List Stmt) (cells : List ℤ) → cause_walk p plan input 0 w (x ∷ rest) cells ≡ Some ByFuel
+some_when_spent : (p : Program) (plan : Plan) (input : List ℤ) (w : Watch) (x : Stmt) (rest : List Stmt) (cells : List ℤ) →
+    cause_walk p plan input 0 w (x ∷ rest) cells ≡ Some ByFuel
 unfolding cause_walk
 some_when_spent p plan input w x rest cells = refl
 
-some_at_fault : (p : Program) (plan : Plan) (input : List ℤ) (m : ℕ) (w : Watch) (x : Stmt) (rest : List Stmt) (cells : List ℤ) (kind : FaultKind) → evaluated p input cells (out-Stmt x) ≡ Err kind →
+some_at_fault : (p : Program) (plan : Plan) (input : List ℤ) (m : ℕ) (w : Watch) (x : Stmt) (rest : List Stmt) (cells : List ℤ) (kind : FaultKind) →
+    evaluated p input cells (out-Stmt x) ≡ Err kind →
     cause_walk p plan input (suc m) w (x ∷ rest) cells ≡ Some (ByFault (record { kind = kind; line = line_of p (site_of (out-Stmt x)) }))
 unfolding cause_walk
 some_at_fault p plan input m w x rest cells kind f = ap (look_by p plan (cause_walk p plan input m) w x rest cells (out-Stmt x)) f
@@ -56,7 +61,8 @@ module _ {p : Program} {plan : Plan} (a : Accepted p plan) (input : List ℤ) (f
   text_is : turn_text p plan ≡ turn_of a
   text_is = ap turn_in a.region ∙ ap turn_by a.is
 
-  module _ (e first : ℕ) (reached : start source plan.region e ≡ Some first) (n k : ℕ) (here : start source plan.region (numbered e n) ≡ Some k) (clean_before : (m : ℕ) → m < n → is_clean p plan source e (numbered e m) ≡ true) where
+  module _ (e first : ℕ) (reached : start source plan.region e ≡ Some first) (n k : ℕ) (here : start source plan.region (numbered e n) ≡ Some k)
+      (clean_before : (m : ℕ) → m < n → is_clean p plan source e (numbered e m) ≡ true) where
     abbrev i : ℕ
     i = numbered e n
 
@@ -81,12 +87,14 @@ module _ {p : Program} {plan : Plan} (a : Accepted p plan) (input : List ℤ) (f
     then_watch = watched_all p plan (iteration source plan.region i) (watch_at h n)
 
     -- it goes through the iteration's events, and on from where they end
-    found_from : (m : ℕ) → it.left ≡ length (iteration source plan.region i) + m → found ≡ option_or first_failure (cause_walk p plan input m then_watch it.after it.then_cells)
+    found_from : (m : ℕ) → it.left ≡ length (iteration source plan.region i) + m →
+        found ≡ option_or first_failure (cause_walk p plan input m then_watch it.after it.then_cells)
     found_from m are =
         let steps : fuel - k ≡ length (iteration source plan.region i) + m = omega (arith, it.steps_are, are) in
         ap (λ (u : ℕ). cause_walk p plan input u (watch_at h n) (turn_of a) (memory_after source plan.region i)) steps
         ∙ cause_is h n m (iteration source plan.region i) it.after it.then_cells gone_by it.path
-        ∙ ap (λ (earlier : List Past). option_or (first_cause p plan (memory_after source plan.region e) i earlier [] (iteration source plan.region i)) (cause_walk p plan input m then_watch it.after it.then_cells)) (sym (since_is source plan.region e n))
+        ∙ ap (λ (earlier : List Past). option_or (first_cause p plan (memory_after source plan.region e) i earlier [] (iteration source plan.region i))
+        (cause_walk p plan input m then_watch it.after it.then_cells)) (sym (since_is source plan.region e n))
 
     -- Where the iteration has ended, its first event that fails is found ..
     when_ended : length (iteration source plan.region i) ≤ it.left → it.after ≡ [] → found ≡ first_failure
@@ -97,8 +105,10 @@ module _ {p : Program} {plan : Plan} (a : Accepted p plan) (input : List ℤ) (f
         ∙ ap (λ (o : Option Cause). option_or first_failure o) (none_at_end p plan input m then_watch it.then_cells) ∙ or_none first_failure
 
     -- .. and else that event, or the run's end.
-    when_broken : (x : Stmt) (rest : List Stmt) → it.after ≡ x ∷ rest → (why : (it.left ≡ length (iteration source plan.region i)) ⊎ ((kind : FaultKind) × (evaluated p input it.then_cells (out-Stmt x) ≡ Err kind))) →
-        StopsSo p input x it.then_cells (length (iteration source plan.region i) < it.left) source.end why → found ≡ Some (cause_or_end first_failure source.end)
+    when_broken : (x : Stmt) (rest : List Stmt) → it.after ≡ x ∷ rest →
+        (why : (it.left ≡ length (iteration source plan.region i)) ⊎ ((kind : FaultKind) × (evaluated p input it.then_cells (out-Stmt x) ≡ Err kind))) →
+        StopsSo p input x it.then_cells (length (iteration source plan.region i) < it.left) source.end why →
+        found ≡ Some (cause_or_end first_failure source.end)
     when_broken x rest after (inl spent) ends =
         found_from 0 (omega (arith, spent))
         ∙ ap (λ (xs : List Stmt). option_or first_failure (cause_walk p plan input 0 then_watch xs it.then_cells)) after
@@ -110,7 +120,8 @@ module _ {p : Program} {plan : Plan} (a : Accepted p plan) (input : List ℤ) (f
         found_from (suc m) (omega (arith, more))
         ∙ ap (λ (xs : List Stmt). option_or first_failure (cause_walk p plan input (suc m) then_watch xs it.then_cells)) after
         ∙ ap (λ (o : Option Cause). option_or first_failure o) (some_at_fault p plan input m then_watch x rest it.then_cells kind fails)
-        ∙ or_end first_failure (run_end.Fault (record { kind = kind; line = line_of p (site_of (out-Stmt x)) })) ∙ ap (λ (t : End). Some (cause_or_end first_failure t)) (sym ends.1)
+        ∙ or_end first_failure (run_end.Fault (record { kind = kind; line = line_of p (site_of (out-Stmt x)) }))
+        ∙ ap (λ (t : End). Some (cause_or_end first_failure t)) (sym ends.1)
 
     clean_is : is_clean p plan source e i ≡ (has_ended source plan.region i && is_none first_failure)
     clean_is = clean_without_cause a input fuel begins stands e i k here
@@ -133,29 +144,39 @@ module _ {p : Program} {plan : Plan} (a : Accepted p plan) (input : List ℤ) (f
         failed ended = ap (λ (b : Bool). b && is_none first_failure) (sym ended) ∙ sym clean_is ∙ unclean
 
         by : Ending a input fuel begins stands i k it.left it.after it.then_cells → found ≡ Some (cause_or_end first_failure source.end)
-        by (goes_on end there memory config going within) = when_ended within end ∙ some_is first_failure source.end (failed (ap (λ (t : Option ℕ). is_some t || is_closing source plan.region i) there))
-        by (closes end none closing stop config within) = when_ended within end ∙ some_is first_failure source.end (failed (rw closing (or-true (is_some (start source plan.region (suc i))))))
+        by (goes_on end there memory config going within) =
+            when_ended within end ∙ some_is first_failure source.end (failed (ap (λ (t : Option ℕ). is_some t || is_closing source plan.region i) there))
+        by (closes end none closing stop config within) =
+            when_ended within end ∙ some_is first_failure source.end (failed (rw closing (or-true (is_some (start source plan.region (suc i))))))
         by (breaks x rest after unended why ends) = when_broken x rest after why ends
 
-  watch_is : (e first n : ℕ) (reached : start source plan.region e ≡ Some first) → watch_before p plan source e n ≡ watch_at (history a input fuel begins stands e first reached) n
+  watch_is : (e first n : ℕ) (reached : start source plan.region e ≡ Some first) →
+      watch_before p plan source e n ≡ watch_at (history a input fuel begins stands e first reached) n
   watch_is e first zero reached = refl
   watch_is e first (suc n) reached =
       ap (λ (w : Watch). next_watch p plan (watched_all p plan (iteration source plan.region (e + n)) w)) (watch_is e first n reached)
-      ∙ ap (λ (i : ℕ). next_watch p plan (watched_all p plan (iteration source plan.region i) (watch_at (history a input fuel begins stands e first reached) n))) (sym (numbered_is e n))
+      ∙ ap (λ (i : ℕ). next_watch p plan (watched_all p plan (iteration source plan.region i) (watch_at (history a input fuel begins stands e first reached)
+      n))) (sym (numbered_is e n))
 
-  by_place : (e first n k : ℕ) (reached : start source plan.region e ≡ Some first) → start source plan.region (numbered e n) ≡ Some k → ((m : ℕ) → m < n → is_clean p plan source e (numbered e m) ≡ true) → numbered e n - e ≡ n →
+  by_place : (e first n k : ℕ) (reached : start source plan.region e ≡ Some first) → start source plan.region (numbered e n) ≡ Some k →
+      ((m : ℕ) → m < n → is_clean p plan source e (numbered e m) ≡ true) → numbered e n - e ≡ n →
       FoundAt p plan input source e (numbered e n) k
   by_place e first n k reached here clean place = record {
     none = λ c. same ∙ clean_has_none e first reached n k here clean c;
     some = λ c. same ∙ cause_found e first reached n k here clean c;
   }
     where
-      same : walk_at p plan input source e (numbered e n) k ≡ cause_walk p plan input (fuel - k) (watch_at (history a input fuel begins stands e first reached) n) (turn_of a) (memory_after source plan.region (numbered e n))
+      same : walk_at p plan input source e (numbered e n) k ≡ cause_walk p plan input (fuel - k) (watch_at (history a input fuel begins stands e first reached)
+          n) (turn_of a) (memory_after source plan.region (numbered e n))
       same =
-          ap (λ (f : ℕ). cause_walk p plan input (f - k) (watch_before p plan source e (numbered e n - e)) (turn_text p plan) (memory_after source plan.region (numbered e n))) (fuel_is p input fuel begins)
-          ∙ ap (λ (m : ℕ). cause_walk p plan input (fuel - k) (watch_before p plan source e m) (turn_text p plan) (memory_after source plan.region (numbered e n))) place
-          ∙ ap (λ (w : Watch). cause_walk p plan input (fuel - k) w (turn_text p plan) (memory_after source plan.region (numbered e n))) (watch_is e first n reached)
-          ∙ ap (λ (xs : List Stmt). cause_walk p plan input (fuel - k) (watch_at (history a input fuel begins stands e first reached) n) xs (memory_after source plan.region (numbered e n))) text_is
+          ap (λ (f : ℕ). cause_walk p plan input (f - k) (watch_before p plan source e (numbered e n - e)) (turn_text p plan)
+          (memory_after source plan.region (numbered e n))) (fuel_is p input fuel begins)
+          ∙ ap (λ (m : ℕ). cause_walk p plan input (fuel - k) (watch_before p plan source e m) (turn_text p plan)
+          (memory_after source plan.region (numbered e n))) place
+          ∙ ap (λ (w : Watch). cause_walk p plan input (fuel - k) w (turn_text p plan) (memory_after source plan.region (numbered e n)))
+          (watch_is e first n reached)
+          ∙ ap (λ (xs : List Stmt). cause_walk p plan input (fuel - k) (watch_at (history a input fuel begins stands e first reached) n) xs
+          (memory_after source plan.region (numbered e n))) text_is
 
   found_at : (e i k : ℕ) → e ≤ i → start source plan.region i ≡ Some k → CleanSince p plan source e i → FoundAt p plan input source e i k
   found_at e i k low here clean =
@@ -164,7 +185,8 @@ module _ {p : Program} {plan : Plan} (a : Accepted p plan) (input : List ℤ) (f
       let place : numbered e n - e ≡ n = omega (arith, numbered_is e n) in
       let first = earlier_start (starts source plan.region) i e k here low in
       subst (λ (j : ℕ). start source plan.region j ≡ Some k → CleanSince p plan source e j → FoundAt p plan input source e j k) is
-      (λ s c. by_place e first.0 n k first.1 s (λ m h. c (numbered e m) (omega (arith, numbered_is e m)) (omega (arith, numbered_is e m, numbered_is e n, h))) place) here clean
+      (λ s c. by_place e first.0 n k first.1 s (λ m h. c (numbered e m) (omega (arith, numbered_is e m))
+      (omega (arith, numbered_is e m, numbered_is e n, h))) place) here clean
 
 -- The walk finds the causes.
 pub finds_causes : {p : Program} {plan : Plan} → Accepted p plan → FindsCauses p plan

@@ -33,5 +33,6 @@ module _ (key : EpochKey) (a : Accepted key.program key.plan) (sound : IsSound k
   pub decides_at : DecidesAt key n
   decides_at = record { commits = commits; again = λ c. again_by c (judgement_of key n) refl; back = λ v gives. back_by v (judgement_of key n) refl gives }
 
-pub decides_rightly : {p : Program} {plan : Plan} → ((key : EpochKey) → key.program ≡ p → key.plan ≡ plan → Accepted key.program key.plan) → DecidesRightly p plan
+pub decides_rightly : {p : Program} {plan : Plan} → ((key : EpochKey) → key.program ≡ p → key.plan ≡ plan → Accepted key.program key.plan) →
+    DecidesRightly p plan
 decides_rightly accepts key program_is plan_is sound n gone = let a = accepts key program_is plan_is in decides_at key a sound n (here_at key a sound n gone)

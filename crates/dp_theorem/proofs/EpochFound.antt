@@ -1,5 +1,10 @@
 -- In an epoch of its own the walk finds the cause of the first iteration that isn't clean.
-use Rattle.dp_semantics.proofs.Names.{◌≡◌, refl, sym, ap, ◌∙◌, subst, ℕ, zero, suc, ◌+◌, ◌-◌, ◌<◌, Bool, true, false, not, if◌then◌else◌, List, [], ◌∷◌, ◌++◌, ℤ, length, map, length-map, length-replicate, replicate, not-true, Option, Some, arith, eq-eqb, and_parts, both_ways, cases_Bool, cases_lt, inl, inr, Stmt, out-Stmt, Program, Plan, Config, Event, stored, stage_of, nat_le, clear_locals, standing, run_of, Run, is_free, is_region, start, iteration, is_closing, has_ended, memory_after, memory_from, cells_in, is_replicated, StageKind, Seq, Par, is_par, slice_get, is_clean, passed, Judgement, Agreed, Clean, Unclean, judge, effect_in, site_in, CleanSince, Judged, Follows, applied, StandsInMain}
+use Rattle.dp_semantics.proofs.Names.{◌≡◌, refl, sym, ap, ◌∙◌, subst, ℕ, zero, suc, ◌+◌, ◌-◌, ◌<◌, Bool, true, false, not, if◌then◌else◌, List, [], ◌∷◌, ◌++◌}
+use Rattle.dp_semantics.proofs.Names.{ℤ, length, map, length-map, length-replicate, replicate, not-true, Option, Some, arith, eq-eqb, and_parts, both_ways}
+use Rattle.dp_semantics.proofs.Names.{cases_Bool, cases_lt, inl, inr, Stmt, out-Stmt, Program, Plan, Config, Event, stored, stage_of, nat_le, clear_locals}
+use Rattle.dp_semantics.proofs.Names.{standing, run_of, Run, is_free, is_region, start, iteration, is_closing, has_ended, memory_after, memory_from, cells_in}
+use Rattle.dp_semantics.proofs.Names.{is_replicated, StageKind, Seq, Par, is_par, slice_get, is_clean, passed, Judgement, Agreed, Clean, Unclean, judge}
+use Rattle.dp_semantics.proofs.Names.{effect_in, site_in, CleanSince, Judged, Follows, applied, StandsInMain}
 use Rattle.dp_semantics.specs.Cause.{cause_since}
 use Rattle.dp_semantics.specs.Verdict.{judgement_at, done_in}
 use Rattle.dp_semantics.specs.EpochKey.{EpochKey, epoch_run, epoch_begin, statements_from}
@@ -26,34 +31,44 @@ module _ (p : Program) (plan : Plan) where
 
   keeps_views : (s : ℕ) (before : List ℤ) (kept : List (List ℤ)) → Keeps s kept (views_from plan s before kept)
   keeps_views s before [] = tt
-  keeps_views s before (own ∷ rest) = (λ seq. sym (ap (λ (b : Bool). if b then before else own) seq), keeps_views (suc s) (if is_replicated plan s then before else own) rest)
+  keeps_views s before (own ∷ rest) =
+      (λ seq. sym (ap (λ (b : Bool). if b then before else own) seq), keeps_views (suc s) (if is_replicated plan s then before else own) rest)
 
   -- .. after an event
-  keeps_shown : (s : ℕ) (event : Event) (kept views : List (List ℤ)) → Keeps s kept views → Keeps s (shown_from p plan (record { site = event.site; loads = []; effect = event.effect }) s kept) (shown_from p plan event s views)
+  keeps_shown : (s : ℕ) (event : Event) (kept views : List (List ℤ)) → Keeps s kept views →
+      Keeps s (shown_from p plan (record { site = event.site; loads = []; effect = event.effect }) s kept) (shown_from p plan event s views)
   keeps_shown s event [] [] k = tt
   keeps_shown s event [] (view ∷ views) k = k
   keeps_shown s event (own ∷ kept) [] k = k
-  keeps_shown s event (own ∷ kept) (view ∷ views) k =
-      (λ seq. ap (λ (cells : List ℤ). if nat_le (stage_of p plan event.site) s then stored event.effect cells else cells) (k.0 seq), keeps_shown (suc s) event kept views k.1)
+  keeps_shown s event (own ∷ kept) (view ∷ views) k = (
+    λ seq. ap (λ (cells : List ℤ). if nat_le (stage_of p plan event.site) s then stored event.effect cells else cells) (k.0 seq),
+    keeps_shown (suc
+        s) event kept views k.1,
+  )
 
-  keeps_all : (events : List Event) (kept : List (List ℤ)) (w : Watch) → Keeps 1 kept w.views → Keeps 1 (kept_after p plan (map site_in events) (map effect_in events) kept) (watched_all p plan events w).views
+  keeps_all : (events : List Event) (kept : List (List ℤ)) (w : Watch) → Keeps 1 kept w.views →
+      Keeps 1 (kept_after p plan (map site_in events) (map effect_in events) kept) (watched_all p plan events w).views
   keeps_all [] kept w k = k
   keeps_all (event ∷ rest) kept w k =
-      keeps_all rest (shown_from p plan (record { site = event.site; loads = []; effect = event.effect }) 1 kept) (watched p plan event w) (keeps_shown 1 event kept w.views k)
+      keeps_all rest (shown_from p plan (record { site = event.site; loads = []; effect = event.effect }) 1 kept) (watched p plan event w)
+      (keeps_shown 1 event kept w.views k)
 
   -- .. and where the next iteration starts
-  views_onward : (s : ℕ) (before : List ℤ) (kept views : List (List ℤ)) → Keeps s kept views → views_from plan s before (map (clear_locals plan.region p.vars) kept) ≡ next_from p plan s before views
+  views_onward : (s : ℕ) (before : List ℤ) (kept views : List (List ℤ)) → Keeps s kept views →
+      views_from plan s before (map (clear_locals plan.region p.vars) kept) ≡ next_from p plan s before views
   views_onward s before [] [] k = refl
   views_onward s before [] (view ∷ views) k = absurd k
   views_onward s before (own ∷ kept) [] k = absurd k
   views_onward s before (own ∷ kept) (view ∷ views) k =
       let clear : List ℤ → List ℤ = λ cells. clear_locals plan.region p.vars cells in
-      let here : (if is_replicated plan s then before else clear own) ≡ (if is_replicated plan s then before else clear view) = elim (cases_Bool (is_replicated plan s)) [
+      let here : (if is_replicated plan s then before else clear own) ≡ (if is_replicated plan s then before else clear view) =
+      elim (cases_Bool (is_replicated plan s)) [
         | inl q ↦ rw q refl
         | inr q ↦ rw q (ap clear (k.0 q))
       ] in
       ap (λ (cells : List ℤ). cells ∷ views_from plan (suc s) cells (map (clear_locals plan.region p.vars) kept)) here
-      ∙ ap (λ (xs : List (List ℤ)). (if is_replicated plan s then before else clear view) ∷ xs) (views_onward (suc s) (if is_replicated plan s then before else clear view) kept views k.1)
+      ∙ ap (λ (xs : List (List ℤ)). (if is_replicated plan s then before else clear view) ∷ xs)
+      (views_onward (suc s) (if is_replicated plan s then before else clear view) kept views k.1)
 
   -- no words are counted yet
   counts_none : (counts : List ℕ) → no_words counts ≡ replicate (length counts) 0
@@ -65,7 +80,8 @@ module _ (p : Program) (plan : Plan) where
   counts_all (event ∷ rest) w = counts_all rest (watched p plan event w) ∙ counted-length p plan event 1 w.counts
 
   -- where an epoch begins, each stage sees its base
-  first_views : (base : List ℤ) (s : ℕ) (before : List ℤ) (stages : List StageKind) → ((j t : ℕ) → t ≡ s + j → is_replicated plan t ≡ is_par (slice_get stages j)) → (is_replicated plan s ≡ true → before ≡ base) →
+  first_views : (base : List ℤ) (s : ℕ) (before : List ℤ) (stages : List StageKind) →
+      ((j t : ℕ) → t ≡ s + j → is_replicated plan t ≡ is_par (slice_get stages j)) → (is_replicated plan s ≡ true → before ≡ base) →
       views_from plan s before (first_kept base stages) ≡ replicate (length stages) base
   first_views base s before [] kinds first = refl
   first_views base s before (Seq ∷ rest) kinds first =
@@ -80,7 +96,8 @@ module _ (p : Program) (plan : Plan) where
 
 -- ---- the epoch's own run
 
-from_front : (r : ℕ) (front : List Stmt) (s : Stmt) (tail : List Stmt) → all_free r front ≡ true → is_region r (out-Stmt s) ≡ true → statements_from r (front ++ s ∷ tail) ≡ s ∷ tail
+from_front : (r : ℕ) (front : List Stmt) (s : Stmt) (tail : List Stmt) → all_free r front ≡ true → is_region r (out-Stmt s) ≡ true →
+    statements_from r (front ++ s ∷ tail) ≡ s ∷ tail
 from_front r [] s tail free here = ap (λ (b : Bool). if b then s ∷ tail else statements_from r tail) here
 from_front r (x ∷ xs) s tail free here =
     let both = and_parts (is_free r x) (all_free r xs) free in
@@ -105,13 +122,23 @@ module _ (key : EpochKey) (a : Accepted key.program key.plan) (sound : IsSound k
   begin_is = ap (λ (xs : List Stmt). standing program xs base) begins_is
 
   stands : StandsInMain program (epoch_begin key)
-  stands = record { inner = []; before = a.front; behind = behind a; cells = base; main_is = a.main_is; plain = refl; config_is = begin_is; cells_are = sound.size }
+  stands = record {
+    inner = [];
+    before = a.front;
+    behind = behind a;
+    cells = base;
+    main_is = a.main_is;
+    plain = refl;
+    config_is = begin_is;
+    cells_are = sound.size;
+  }
 
   start_zero : start own r 0 ≡ Some 0
   start_zero = ap (λ (c : Config). start (run_of program input fuel c) r 0) begin_is ∙ starts_at_once a input 0 fuel base
 
   memory_zero : memory_after own r 0 ≡ base
-  memory_zero = ap (λ (o : Option ℕ). memory_from own o (start own r (0 - 1))) start_zero ∙ ap cells_in (run_first program input fuel (epoch_begin key)) ∙ ap (λ (c : Config). c.cells) (begin_is ∙ standing_is a input base) ∙ sound.cleared
+  memory_zero = ap (λ (o : Option ℕ). memory_from own o (start own r (0 - 1))) start_zero ∙ ap cells_in (run_first program input fuel (epoch_begin key))
+      ∙ ap (λ (c : Config). c.cells) (begin_is ∙ standing_is a input base) ∙ sound.cleared
 
   -- where the n-th iteration starts, all before it being clean
   pub record Here (n : ℕ) : Type 0 where
@@ -127,7 +154,11 @@ module _ (key : EpochKey) (a : Accepted key.program key.plan) (sound : IsSound k
     starts = start_zero;
     state = (λ i. record { cells = sym memory_zero i; steps = no_steps i });
     clean = λ j low high. absurd (omega (arith, high));
-    watch = (λ i. record { views = (first_views program plan base 1 [] plan.stages kinds first ∙ ap (replicate (length plan.stages)) (sym memory_zero)) i; counts = replicate (length plan.stages) 0 });
+    watch = (λ i. record {
+      views = (first_views program plan base 1 [] plan.stages kinds first
+          ∙ ap (replicate (length plan.stages)) (sym memory_zero)) i;
+      counts = replicate (length plan.stages) 0;
+    });
   }
     where
       no_steps : key.steps ≡ key.steps + 0
@@ -148,10 +179,12 @@ module _ (key : EpochKey) (a : Accepted key.program key.plan) (sound : IsSound k
 
     -- a judgement on the n-th packet of the epoch that begins with this memory
     abbrev judging : ℕ → List ℤ → ℕ → Judgement
-    judging left from m = judge program plan left (memory_after own r n) (passed (record { program = program; plan = plan; input = input; base = from }) (length plan.stages) m).packet
+    judging left from m = judge program plan left (memory_after own r n) (passed (record { program = program; plan = plan; input = input; base = from })
+        (length plan.stages) m).packet
 
     pub judgement_is : judgement_of key n ≡ judgement_at program plan input own 0 n h.k
-    judgement_is = ap (judgement_in key n) h.state ∙ ap (λ (left : ℕ). judging left base n) left_is ∙ ap (λ (from : List ℤ). judging (own.fuel - h.k) from n) (sym memory_zero) ∙ ap (judging (own.fuel - h.k) (memory_after own r 0)) place
+    judgement_is = ap (judgement_in key n) h.state ∙ ap (λ (left : ℕ). judging left base n) left_is ∙ ap (λ (from : List ℤ). judging (own.fuel - h.k) from n)
+        (sym memory_zero) ∙ ap (judging (own.fuel - h.k) (memory_after own r 0)) place
 
     pub judged : Judged program plan input own 0 n h.k
     judged = judges_rightly a input fuel (epoch_begin key) stands 0 n h.k (omega arith) h.starts h.clean
@@ -167,7 +200,8 @@ module _ (key : EpochKey) (a : Accepted key.program key.plan) (sound : IsSound k
     found e =
         ap (λ (s : JudgeState). cause_walk program plan input (key.fuel - s.steps) (watch_of plan (kept_at key n)) (turn_text program plan) s.cells) h.state
         ∙ ap (λ (left : ℕ). cause_walk program plan input left (watch_of plan (kept_at key n)) (turn_text program plan) (memory_after own r n)) left_is
-        ∙ ap (λ (w : Watch). cause_walk program plan input (own.fuel - h.k) w (turn_text program plan) (memory_after own r n)) (h.watch ∙ ap (watch_before program plan own 0) place)
+        ∙ ap (λ (w : Watch). cause_walk program plan input (own.fuel - h.k) w (turn_text program plan) (memory_after own r n)) (h.watch
+        ∙ ap (watch_before program plan own 0) place)
         ∙ (finds_causes a input fuel (epoch_begin key) stands 0 n h.k (omega arith) h.starts h.clean).some (unclean_by e)
 
     module _ (agreed : Agreed) (is : judgement_of key n ≡ Clean agreed) (going : not agreed.closing ≡ true) where
@@ -200,10 +234,12 @@ module _ (key : EpochKey) (a : Accepted key.program key.plan) (sound : IsSound k
 
       counted : replicate (length plan.stages) 0 ≡ no_words (watched_all program plan events (watch_before program plan own 0 n)).counts
       counted =
-          let all = counts_all program plan events (watch_before program plan own 0 n) ∙ ap (λ (w : Watch). length w.counts) (sym h.watch) ∙ length-replicate (length plan.stages) 0 in
+          let all = counts_all program plan events (watch_before program plan own 0 n) ∙ ap (λ (w : Watch). length w.counts) (sym h.watch)
+          ∙ length-replicate (length plan.stages) 0 in
           ap (λ (m : ℕ). replicate m 0) (sym all) ∙ sym (counts_none program plan (watched_all program plan events (watch_before program plan own 0 n)).counts)
 
-      viewed : views_from plan 1 [] (map (clear_locals r program.vars) (kept_after program plan (map site_in events) (map effect_in events) (kept_at key n))) ≡ next_from program plan 1 [] (watched_all program plan events (watch_before program plan own 0 n)).views
+      viewed : views_from plan 1 [] (map (clear_locals r program.vars) (kept_after program plan (map site_in events) (map effect_in events) (kept_at key n)))
+          ≡ next_from program plan 1 [] (watched_all program plan events (watch_before program plan own 0 n)).views
       viewed = views_onward program plan 1 [] _ _ (keeps_all program plan events (kept_at key n) (watch_before program plan own 0 n) keeps)
 
       here_next : Here (suc n)
@@ -211,12 +247,21 @@ module _ (key : EpochKey) (a : Accepted key.program key.plan) (sound : IsSound k
         k = h.k + length events;
         starts = follows.next_start;
         state = ap (after_judgement key (state_at key n)) told
-            ∙ ap (λ (s : JudgeState). record { cells = clear_locals r program.vars (applied (map effect_in events) s.cells); steps = s.steps + length (map effect_in events) }) h.state
+            ∙ ap (λ (s : JudgeState). record {
+              cells = clear_locals r program.vars (applied (map effect_in events) s.cells);
+              steps = s.steps + length (map
+                  effect_in events);
+            }) h.state
             ∙ (λ i. record { cells = sym follows.memory i; steps = steps_are i });
-        clean = λ j low high. elim (cases_lt j n) [ inl l ↦ h.clean j low l | inr l ↦ let same : j ≡ n = omega (arith, l, high) in ap (is_clean program plan own 0) same ∙ clean_here ];
+        clean = λ j low high. elim (cases_lt j n) [
+          | inl l ↦ h.clean j low l
+          | inr l ↦ let same : j ≡ n = omega (arith, l, high) in ap (is_clean program plan own
+              0) same ∙ clean_here
+        ];
         watch = ap (λ (j : Judgement). watch_of plan (next_kept program plan j (kept_at key n))) told
             ∙ (λ i. record { views = viewed i; counts = counted i })
-            ∙ (let zero_more : n ≡ 0 + n = omega arith in ap (λ (m : ℕ). next_watch program plan (watched_all program plan (iteration own r m) (watch_before program plan own 0 n))) zero_more);
+            ∙ (let zero_more : n ≡ 0 + n = omega arith in ap (λ (m : ℕ). next_watch program plan
+            (watched_all program plan (iteration own r m) (watch_before program plan own 0 n))) zero_more);
       }
 
     next_by : (j : Judgement) → judgement_of key n ≡ j → goes_on (verdict_by key n j) ≡ true → Here (suc n)
@@ -227,11 +272,16 @@ module _ (key : EpochKey) (a : Accepted key.program key.plan) (sound : IsSound k
   here_at zero gone = here_zero
   here_at (suc n) gone = next_by n (here_at n (λ m l. gone m (omega (arith, l)))) (judgement_of key n) refl (gone n (omega arith))
 
-pub finds_in_epochs : {p : Program} {plan : Plan} → ((key : EpochKey) → key.program ≡ p → key.plan ≡ plan → Accepted key.program key.plan) → FindsInEpochs p plan
-finds_in_epochs accepts key program_is plan_is sound n gone unclean = let a = accepts key program_is plan_is in found key a sound n (here_at key a sound n gone) unclean
+pub finds_in_epochs : {p : Program} {plan : Plan} → ((key : EpochKey) → key.program ≡ p → key.plan ≡ plan → Accepted key.program key.plan) →
+    FindsInEpochs p plan
+finds_in_epochs accepts key program_is plan_is sound n gone unclean =
+    let a = accepts key program_is plan_is in found key a sound n (here_at key a sound n gone) unclean
 
 -- where the region's condition comes next, its body locals read 0
-pub cleared_there : {p : Program} {plan : Plan} (a : Accepted p plan) (cells : List ℤ) → (standing p (statements_from plan.region p.main) cells).cells ≡ cells → clear_locals plan.region p.vars cells ≡ cells
+pub cleared_there : {p : Program} {plan : Plan} (a : Accepted p plan) (cells : List ℤ) → (standing p (statements_from plan.region p.main) cells).cells ≡ cells →
+    clear_locals plan.region p.vars cells ≡ cells
 cleared_there {p = p} {plan = plan} a cells still =
-    sym (ap (λ (c : Config). c.cells) (ap (λ (xs : List Stmt). standing p xs cells) (ap (statements_from plan.region) a.main_is ∙ from_front plan.region a.front a.statement a.tail a.front_free (ap (is_region plan.region) a.is ∙ eq-eqb plan.region plan.region refl)) ∙ standing_is a [] cells))
+    sym (ap (λ (c : Config). c.cells) (ap (λ (xs : List Stmt). standing p xs cells) (ap (statements_from plan.region) a.main_is
+    ∙ from_front plan.region a.front a.statement a.tail a.front_free (ap (is_region plan.region) a.is ∙ eq-eqb plan.region plan.region refl))
+    ∙ standing_is a [] cells))
     ∙ still

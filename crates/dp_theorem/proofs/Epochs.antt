@@ -1,9 +1,14 @@
 -- The packets of an epoch whose iterations so far went in agreement with the plan.
-use Rattle.dp_semantics.proofs.Names.{◌≡◌, inl, inr, refl, sym, ap, ◌∙◌, subst, ℕ, zero, suc, ◌+◌, ◌<◌, true, false, List, [], ◌∷◌, ◌++◌, ℤ, pos, length, get_or, length-append, Option, Some, slice_get, Ok, arith, slice_get_past, cases_order, both_ways, Word, Event, StageKind, Par, Plan, is_par, is_replicated, Past, pushed, word_list, TurnEnd, stage_run, Status, Packet, Passed, Epoch, status_of, passed_by, run_on, cleared, at_sequential, at_replicated, at_kind, passed, last}
+use Rattle.dp_semantics.proofs.Names.{◌≡◌, inl, inr, refl, sym, ap, ◌∙◌, subst, ℕ, zero, suc, ◌+◌, ◌<◌, true, false, List, [], ◌∷◌, ◌++◌, ℤ, pos, length}
+use Rattle.dp_semantics.proofs.Names.{get_or, length-append, Option, Some, slice_get, Ok, arith, slice_get_past, cases_order, both_ways, Word, Event, StageKind}
+use Rattle.dp_semantics.proofs.Names.{Par, Plan, is_par, is_replicated, Past, pushed, word_list, TurnEnd, stage_run, Status, Packet, Passed, Epoch, status_of}
+use Rattle.dp_semantics.proofs.Names.{passed_by, run_on, cleared, at_sequential, at_replicated, at_kind, passed, last}
 use Rattle.dp_tree.specs.Iteration.{closes}
 use Rattle.dp_semantics.proofs.Setting.{size, Fit, Before, fresh_start, went_on}
-use Rattle.dp_semantics.proofs.PacketFacts.{live, status_for, status_next, status_live, word_list-early, word_list-last, passed_live, run_before, Left, left_live}
-use Rattle.dp_theorem.proofs.Whole.{turn_of, stands_at_start, Fresh, Makes, TurnIs, TurnEnds, stage_whole, AllBefore, pushed_before, before_later, Cleared, sees_next, sees_replicated, words_through, closing_after, stands_after}
+use Rattle.dp_semantics.proofs.PacketFacts.{live, status_for, status_next, status_live, word_list-early, word_list-last, passed_live, run_before, Left}
+use Rattle.dp_semantics.proofs.PacketFacts.{left_live}
+use Rattle.dp_theorem.proofs.Whole.{turn_of, stands_at_start, Fresh, Makes, TurnIs, TurnEnds, stage_whole, AllBefore, pushed_before, before_later, Cleared}
+use Rattle.dp_theorem.proofs.Whole.{sees_next, sees_replicated, words_through, closing_after, stands_after}
 use Rattle.dp_theorem.proofs.Stepping.{Sees, Stands}
 use Rattle.dp_tree.proofs.InMain.{cleared_length}
 
@@ -64,7 +69,8 @@ module _ {k : Epoch} (h : History k) where
   ready_next n r gone = record {
     before = before_next n r;
     at = stands_at_start ok (number (suc n)) (past (suc n)) (memory (suc n)) after.known
-        (subst (λ (cells : List ℤ). Sees k (last plan) (number (suc n)) (past (suc n)) cells) (sym gone.onward) (sees_next k (last plan) (number n) (past (suc n)) gone.makes.then_cells (last_sequential plan) h.clean_base (before_next n r) after.sees))
+        (subst (λ (cells : List ℤ). Sees k (last plan) (number (suc n)) (past (suc n)) cells) (sym gone.onward)
+        (sees_next k (last plan) (number n) (past (suc n)) gone.makes.then_cells (last_sequential plan) h.clean_base (before_next n r) after.sees))
         (ap length gone.onward ∙ cleared_length plan.region program.vars gone.makes.then_cells ∙ after.size_is) chained;
     chain = chained;
   }
@@ -76,7 +82,12 @@ module _ {k : Epoch} (h : History k) where
       chained = went_on r.chain gone.makes.path gone.going r.at.size_is refl gone.onward
 
   pub ready : (n : ℕ) → Gone n → Ready n
-  ready zero g = record { before = tt; at = stands_at_start ok (number 0) [] (memory 0) tt (λ c. ap (λ (cells : List ℤ). get_or cells c (pos 0)) h.starts) (ap length h.starts ∙ h.base_size) fresh_start; chain = fresh_start }
+  ready zero g = record {
+    before = tt;
+    at = stands_at_start ok (number 0) [] (memory 0) tt (λ c. ap (λ (cells : List ℤ). get_or cells c (pos 0)) h.starts) (ap
+        length h.starts ∙ h.base_size) fresh_start;
+    chain = fresh_start;
+  }
   ready (suc n) g = ready_next n (ready n (λ m l. g m (omega (arith, l)))) (g n (omega arith))
 
   abbrev FreshAt : ℕ → ℕ → List ℤ → Type 0
@@ -118,11 +129,13 @@ module _ {k : Epoch} (h : History k) where
       sent = record {
         count = length-append came.lists (words_through program plan (suc s) (events n) ∷ []) ∙ added;
         words = λ t low up. elim (cases_order t (suc s)) [
-          | inl e ↦ word_list-last came.lists (words_through program plan (suc s) (events n)) t (omega (arith, e, sent.count)) ∙ ap (λ (u : ℕ). words_through program plan u (events n)) (sym e)
+          | inl e ↦ word_list-last came.lists (words_through program plan (suc s) (events n)) t (omega (arith, e, sent.count))
+              ∙ ap (λ (u : ℕ). words_through program plan u (events n)) (sym e)
           | inr (inl e) ↦ word_list-early came.lists (words_through program plan (suc s) (events n)) t low (omega (arith, e, sent.count)) ∙ sent.words t low e
           | inr (inr e) ↦ absurd (omega (arith, up, e))
         ];
-        status = ap (λ (status : Status). status_of status (closing_after program plan false (events n))) sent.status ∙ status_next s (closing_after program plan false (events n));
+        status = ap (λ (status : Status). status_of status (closing_after program plan false (events n))) sent.status
+            ∙ status_next s (closing_after program plan false (events n));
       };
       after = record { sees = whole.sees; size_is = whole.size_is };
     })
@@ -131,12 +144,21 @@ module _ {k : Epoch} (h : History k) where
         added = omega (arith, sent.count)
 
         whole : TurnIs ok (number n) (past n) (suc s) (events n) turn
-        whole = stage_whole ok (number n) (past n) (memory n) r.at (suc s) (omega arith) high (events n) makes before fresh came.lists (λ t low up. sent.words t low (omega (arith, up))) (omega (arith, sent.count))
+        whole = stage_whole ok (number n) (past n) (memory n) r.at (suc s) (omega arith) high (events n) makes before fresh came.lists
+            (λ t low up. sent.words t low (omega (arith, up))) (omega (arith, sent.count))
 
-        made : run_on k (suc s) before came ≡ passed_by k (suc s) before came (Ok (record { own = words_through program plan (suc s) (events n); cells = whole.then_cells; closing = closing_after program plan false (events n) }))
-        made = passed_live k (suc s) before came turn came.status (ap live sent.status ∙ status_live s (closing_after program plan false (events n))) ∙ ap (passed_by k (suc s) before came) whole.is
+        made : run_on k (suc s) before came ≡ passed_by k (suc s) before came
+            (Ok (record {
+              own = words_through program plan (suc s) (events
+                  n);
+              cells = whole.then_cells;
+              closing = closing_after program plan false (events n);
+            }))
+        made = passed_live k (suc s) before came turn came.status (ap live sent.status ∙ status_live s (closing_after program plan false (events n)))
+            ∙ ap (passed_by k (suc s) before came) whole.is
 
-    ends_on : (live came.status ≡ true → Ends s n came.lists) → live (run_on k (suc s) before came).packet.status ≡ true → Ends (suc s) n (run_on k (suc s) before came).packet.lists
+    ends_on : (live came.status ≡ true → Ends s n came.lists) → live (run_on k (suc s) before came).packet.status ≡ true →
+        Ends (suc s) n (run_on k (suc s) before came).packet.lists
     ends_on earlier alive = subst (λ (lists : List (List Word)). Ends (suc s) n lists) (sym left.lists) (record {
       count = length-append came.lists (left.ended.own ∷ []) ∙ added;
       turns = by_turn;
@@ -189,7 +211,8 @@ module _ {k : Epoch} (h : History k) where
 
   module _ (s : ℕ) (high : suc s < last plan) (came : ℕ → Passed) (claims : (n : ℕ) → Gone n → Claim s n (came n)) where
     sequential : is_replicated plan (suc s) ≡ false → (n : ℕ) → Gone n → Claim (suc s) n (at_sequential k (suc s) came n)
-    sequential seq zero g = ran s 0 high (ready 0 g) base (record { sees = λ c. refl; size_is = h.base_size }) (came 0).packet (claims 0 g).sent (claims 0 g).ends
+    sequential seq zero g =
+        ran s 0 high (ready 0 g) base (record { sees = λ c. refl; size_is = h.base_size }) (came 0).packet (claims 0 g).sent (claims 0 g).ends
     sequential seq (suc n) g =
         let fewer : Gone n = λ m l. g m (omega (arith, l)) in
         let was = (sequential seq n fewer).after (g n (omega arith)).makes (omega arith) in
@@ -203,7 +226,12 @@ module _ {k : Epoch} (h : History k) where
     replicated : is_replicated plan (suc s) ≡ true → (n : ℕ) → Gone n → Claim (suc s) n (at_replicated k (suc s) came n)
     replicated rep n g =
         let was = (claims n g).fresh (not_first s rep) in
-        ran s n high (ready n g) (came n).before (record { sees = sees_replicated k s (number n) (past n) (came n).before (ok.accepted.apart s rep) rep (ready n g).before was.sees; size_is = was.size_is })
+        ran s n high (ready n g) (came n).before
+        (record {
+          sees = sees_replicated k s (number n) (past n) (came n).before (ok.accepted.apart s rep) rep (ready n
+              g).before was.sees;
+          size_is = was.size_is;
+        })
         (came n).packet (claims n g).sent (claims n g).ends
       where
         not_first : (s : ℕ) → is_replicated plan (suc s) ≡ true → 0 < s

@@ -1,5 +1,10 @@
 -- From the test of a program and a plan to what the central theorem asks, and the theorem itself.
-use Rattle.dp_semantics.proofs.Names.{◌≡◌, inl, inr, refl, ap, ℕ, zero, suc, ◌<◌, ◌≤◌, ◌==◌, Bool, true, false, if◌then◌else◌, List, [], ◌∷◌, length, Option, Some, None, nat_lt, nat_le, filter, arith, ltb-true, leb-true, eqb-true, eq-eqb, cases_eq, both_ways, not-true, list_all, flat_map, Stmt, out-Stmt, Stmt-F, Region, Program, Plan, cell_count, Run, Access, accesses, first_site, stage_of, is_region_at, region_statement, region_accesses, is_clean, well_nested, is_free, cells_in_order, has_cell, stores_known, access_known, is_inner, region_fits, one_region, region_alone, kinds_fit, fits_plan, run_of, ClosingLeaves, CleanSince, JudgesRightly, JudgesEpochs, StoresLead, and_parts, and_from, cases_Bool}
+use Rattle.dp_semantics.proofs.Names.{◌≡◌, inl, inr, refl, ap, ℕ, zero, suc, ◌<◌, ◌≤◌, ◌==◌, Bool, true, false, if◌then◌else◌, List, [], ◌∷◌, length, Option}
+use Rattle.dp_semantics.proofs.Names.{Some, None, nat_lt, nat_le, filter, arith, ltb-true, leb-true, eqb-true, eq-eqb, cases_eq, both_ways, not-true, list_all}
+use Rattle.dp_semantics.proofs.Names.{flat_map, Stmt, out-Stmt, Stmt-F, Region, Program, Plan, cell_count, Run, Access, accesses, first_site, stage_of}
+use Rattle.dp_semantics.proofs.Names.{is_region_at, region_statement, region_accesses, is_clean, well_nested, is_free, cells_in_order, has_cell, stores_known}
+use Rattle.dp_semantics.proofs.Names.{access_known, is_inner_access, region_fits, one_region, region_alone, kinds_fit, fits_plan, run_of, ClosingLeaves}
+use Rattle.dp_semantics.proofs.Names.{CleanSince, JudgesRightly, JudgesEpochs, StoresLead, and_parts, and_from, cases_Bool}
 use Rattle.dp_semantics.proofs.Setting.{each_both, RegionIs, Split, Listed, listed_all, Sound, Accepted, Each, each_map, all_of, Roomy, all_free}
 use Rattle.dp_theorem.proofs.InOrder.{laid_of}
 use Rattle.dp_semantics.proofs.StageKinds.{kinds_of}
@@ -21,7 +26,8 @@ module _ (p : Program) (plan : Plan) where
       let high : stage_of p plan u.site ≤ length plan.stages = leb-true (stage_of p plan u.site) (length plan.stages) three.1 in
       record {
         listed = listed;
-        reads = each_map (λ x. has_cell p x ≡ true) (λ x. 0 < cell_count p (record { 0 = x })) (λ x h. ltb-true 0 (cell_count p (record { 0 = x })) h) u.loads (all_of (has_cell p) u.loads one.0);
+        reads = each_map (λ x. has_cell p x ≡ true) (λ x. 0 < cell_count p (record { 0 = x })) (λ x h. ltb-true 0 (cell_count p (record { 0 = x })) h) u.loads
+            (all_of (has_cell p) u.loads one.0);
         room = room_of u.stores two.0;
         staged = ltb-true 0 (stage_of p plan u.site) three.0;
         early = omega (arith, high);
@@ -29,10 +35,11 @@ module _ (p : Program) (plan : Plan) where
 
   sounds_of : list_all (access_known p plan) (region_accesses p plan) ≡ true → Each (Sound p plan) (region_accesses p plan)
   sounds_of e = each_map _ (Sound p plan) (λ u h. sound_of u h.0 h.1) (region_accesses p plan)
-      (each_both (Listed (region_accesses p plan)) (λ u. access_known p plan u ≡ true) (region_accesses p plan) (listed_all (region_accesses p plan)) (all_of (access_known p plan) (region_accesses p plan) e))
+      (each_both (Listed (region_accesses p plan)) (λ u. access_known p plan u ≡ true) (region_accesses p plan) (listed_all (region_accesses p plan))
+      (all_of (access_known p plan) (region_accesses p plan) e))
 
   -- The region's statement.
-  not_site : (u : Access) → is_inner p plan u ≡ true → u.site ≡ first_site p plan → ⊥
+  not_site : (u : Access) → is_inner_access p plan u ≡ true → u.site ≡ first_site p plan → ⊥
   not_site u e q = both_ways (u.site == first_site p plan) (not-true (u.site == first_site p plan) e) (eq-eqb u.site (first_site p plan) q)
 
   region_is : (h : Stmt-F Stmt) → region_fits p plan h ≡ true → RegionIs p plan h
@@ -40,7 +47,7 @@ module _ (p : Program) (plan : Plan) where
       let one = and_parts (q == plan.region) _ e in
       let two = and_parts (first_site p plan == site.0) _ one.1 in
       let three = and_parts (stage_of p plan (first_site p plan) == 1) _ two.1 in
-      let both = and_parts (list_all (well_nested p plan) body) (list_all (is_inner p plan) (flat_map accesses body)) three.1 in
+      let both = and_parts (list_all (well_nested p plan) body) (list_all (is_inner_access p plan) (flat_map accesses body)) three.1 in
       record {
         site = site;
         cond = cond;
@@ -49,7 +56,8 @@ module _ (p : Program) (plan : Plan) where
         first = eqb-true (first_site p plan) site.0 two.0;
         staged = eqb-true (stage_of p plan (first_site p plan)) 1 three.0;
         well = both.0;
-        inner = each_map (λ u. is_inner p plan u ≡ true) (λ u. u.site ≡ first_site p plan → ⊥) not_site (flat_map accesses body) (all_of (is_inner p plan) (flat_map accesses body) both.1);
+        inner = each_map (λ u. is_inner_access p plan u ≡ true) (λ u. u.site ≡ first_site p plan → ⊥) not_site (flat_map accesses body)
+            (all_of (is_inner_access p plan) (flat_map accesses body) both.1);
       }
   region_is _ e = absurd (cc)
 
@@ -59,7 +67,8 @@ module _ (p : Program) (plan : Plan) where
   single (s ∷ t ∷ rest) e = absurd (cc)
 
   -- The statements before and behind it.
-  none_found : (main : List Stmt) → filter (is_region_at plan.region) main ≡ [] → list_all (region_alone plan.region) main ≡ true → all_free plan.region main ≡ true
+  none_found : (main : List Stmt) → filter (is_region_at plan.region) main ≡ [] → list_all (region_alone plan.region) main ≡ true →
+      all_free plan.region main ≡ true
   none_found [] e q = refl
   none_found (x ∷ rest) e q =
       let parts = and_parts (region_alone plan.region x) (list_all (region_alone plan.region) rest) q in
@@ -68,7 +77,8 @@ module _ (p : Program) (plan : Plan) where
         | inr is ↦ and_from (is_free plan.region x) (all_free plan.region rest) (rw is at parts.0) (none_found rest (rw is at e) parts.1)
       ]
 
-  pub split_of : (main : List Stmt) (s : Stmt) → filter (is_region_at plan.region) main ≡ s ∷ [] → list_all (region_alone plan.region) main ≡ true → Split plan.region main s
+  pub split_of : (main : List Stmt) (s : Stmt) → filter (is_region_at plan.region) main ≡ s ∷ [] → list_all (region_alone plan.region) main ≡ true →
+      Split plan.region main s
   split_of [] s e q = absurd (cc)
   split_of (x ∷ rest) s e q =
       let parts = and_parts (region_alone plan.region x) (list_all (region_alone plan.region) rest) q in
@@ -128,16 +138,19 @@ module _ (p : Program) (plan : Plan) where
 
     next_under : (e i : ℕ) (f b : Bool) → is_clean p plan run e i ≡ b → Under e i → Under (if f then suc i else (if b then e else suc i)) (suc i)
     next_under e i true b c u = fresh (suc i)
-    next_under e i false true c u = record { begun = omega (arith, u.begun); clean = λ j low high. elim (cases_eq j i) [ inl q ↦ rw q c | inr q ↦ u.clean j low (omega (arith, high, q)) ] }
+    next_under e i false true c u =
+        record { begun = omega (arith, u.begun); clean = λ j low high. elim (cases_eq j i) [ inl q ↦ rw q c | inr q ↦ u.clean j low (omega (arith, high, q)) ] }
     next_under e i false false c u = fresh (suc i)
 
     under : (begins : ℕ → Bool) (i : ℕ) → Under (epoch_with begins p plan run i) i
     under begins zero = fresh 0
-    under begins (suc i) = next_under (epoch_with begins p plan run i) i (begins (suc i)) (is_clean p plan run (epoch_with begins p plan run i) i) refl (under begins i)
+    under begins (suc i) =
+        next_under (epoch_with begins p plan run i) i (begins (suc i)) (is_clean p plan run (epoch_with begins p plan run i) i) refl (under begins i)
 
   pub fitting_resumed : fits_plan p plan ≡ true → JudgesResumed p plan
   fitting_resumed e begins input fuel c within i k here =
-      let u = under (run_of p input fuel c) begins i in fitting_judges e input fuel c within (epoch_with begins p plan (run_of p input fuel c) i) i k u.begun here u.clean
+      let u = under (run_of p input fuel c) begins i in
+      fitting_judges e input fuel c within (epoch_with begins p plan (run_of p input fuel c) i) i k u.begun here u.clean
 
   pub fitting_epochs : fits_plan p plan ≡ true → JudgesEpochs p plan
   fitting_epochs e = fitting_resumed e nowhere

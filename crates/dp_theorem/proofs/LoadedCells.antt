@@ -1,5 +1,9 @@
 -- Each load of an event is what its cell held before the step.
-use Rattle.dp_semantics.proofs.Names.{◌≡◌, inl, inr, refl, subst, ℕ, suc, ◌+◌, Bool, true, false, if◌then◌else◌, List, [], ◌∷◌, ℤ, pos, negsuc, length, map, get_or, nat_lt, slice_get_within, Result, Ok, Err, arith, cases_Bool, FaultKind, Expr, more_of-Expr, end_of-Expr, Program, Stmt, Stmt-F, out-Stmt, Assign, Store, Print, If, While, Region, Break, Call, SiteId, Evaluated, and_then, after_loads, just, without_loads, place, load, Load, first_cell, cell_count, unary_result, binary_result, is_zero, slice_get-get_or, Config, Effect, Stored, Step, Stepped, Faulted, Finished, step, step_at, step_by, evaluated, run_of}
+use Rattle.dp_semantics.proofs.Names.{◌≡◌, inl, inr, refl, subst, ℕ, suc, ◌+◌, Bool, true, false, if◌then◌else◌, List, [], ◌∷◌, ℤ, pos, negsuc, length, map}
+use Rattle.dp_semantics.proofs.Names.{get_or, nat_lt, slice_get_within, Result, Ok, Err, arith, cases_Bool, FaultKind, Expr, more_of-Expr, end_of-Expr, Program}
+use Rattle.dp_semantics.proofs.Names.{Stmt, Stmt-F, out-Stmt, Assign, Store, Print, If, While, Region, Break, Call, SiteId, Evaluated, and_then, after_loads}
+use Rattle.dp_semantics.proofs.Names.{just, without_loads, place, load, Load, first_cell, cell_count, unary_result, binary_result, is_zero, slice_get-get_or}
+use Rattle.dp_semantics.proofs.Names.{Config, Effect, Stored, Step, Stepped, Faulted, Finished, step, step_at, step_by, evaluated, run_of}
 unfoldable use Rattle.dp_semantics.proofs.Names.{eval}
 use Rattle.dp_tree.specs.declared.Expr.TheVariants as tree
 use Rattle.dp_tree.proofs.RunLaws.{runs_by_step}
@@ -51,14 +55,19 @@ module _ (cells : List ℤ) where
     eval_reads : (e : Expr) → Reads (eval p input cells e)
     unfolding eval
     eval_reads (tree.Number n) = reads_just _
-    eval_reads (tree.Input' _ (more_of-Expr e end_of-Expr)) = reads_then _ _ (eval_reads e) (λ i. reads_then _ _ (reads_place i (length input)) (λ k. reads_just _))
+    eval_reads (tree.Input' _ (more_of-Expr e end_of-Expr)) =
+        reads_then _ _ (eval_reads e) (λ i. reads_then _ _ (reads_place i (length input)) (λ k. reads_just _))
     eval_reads tree.InputLen = reads_just _
     eval_reads (tree.Scalar x) = reads_load (first_cell p x)
-    eval_reads (tree.Element' x _ (more_of-Expr e end_of-Expr)) = reads_then _ _ (eval_reads e) (λ i. reads_then _ _ (reads_place i (cell_count p x)) (λ k. reads_load (first_cell p x + k)))
+    eval_reads (tree.Element' x _ (more_of-Expr e end_of-Expr)) =
+        reads_then _ _ (eval_reads e) (λ i. reads_then _ _ (reads_place i (cell_count p x)) (λ k. reads_load (first_cell p x + k)))
     eval_reads (tree.Unary' op _ (more_of-Expr e end_of-Expr)) = reads_then _ _ (eval_reads e) (λ x. reads_same (unary_result op x))
-    eval_reads (tree.Binary' op _ (more_of-Expr a end_of-Expr) _ (more_of-Expr b end_of-Expr)) = reads_then _ _ (eval_reads a) (λ x. reads_then _ _ (eval_reads b) (λ y. reads_same (binary_result op x y)))
-    eval_reads (tree.And' _ (more_of-Expr a end_of-Expr) _ (more_of-Expr b end_of-Expr)) = reads_then _ _ (eval_reads a) (λ x. reads_if (is_zero x) _ _ (reads_just (pos 0)) (reads_then _ _ (eval_reads b) (λ y. reads_just _)))
-    eval_reads (tree.Or' _ (more_of-Expr a end_of-Expr) _ (more_of-Expr b end_of-Expr)) = reads_then _ _ (eval_reads a) (λ x. reads_if (is_zero x) _ _ (reads_then _ _ (eval_reads b) (λ y. reads_just _)) (reads_just (pos 1)))
+    eval_reads (tree.Binary' op _ (more_of-Expr a end_of-Expr) _ (more_of-Expr b end_of-Expr)) =
+        reads_then _ _ (eval_reads a) (λ x. reads_then _ _ (eval_reads b) (λ y. reads_same (binary_result op x y)))
+    eval_reads (tree.And' _ (more_of-Expr a end_of-Expr) _ (more_of-Expr b end_of-Expr)) =
+        reads_then _ _ (eval_reads a) (λ x. reads_if (is_zero x) _ _ (reads_just (pos 0)) (reads_then _ _ (eval_reads b) (λ y. reads_just _)))
+    eval_reads (tree.Or' _ (more_of-Expr a end_of-Expr) _ (more_of-Expr b end_of-Expr)) =
+        reads_then _ _ (eval_reads a) (λ x. reads_if (is_zero x) _ _ (reads_then _ _ (eval_reads b) (λ y. reads_just _)) (reads_just (pos 1)))
 
     one_reads : (e : Expr) (f : ℤ → Effect) → Reads (and_then (eval p input cells e) (λ z. just (f z)))
     one_reads e f = reads_then _ _ (eval_reads e) (λ z. reads_just (f z))
@@ -66,7 +75,10 @@ module _ (cells : List ℤ) where
     head_reads : (h : Stmt-F Stmt) → Reads (evaluated p input cells h)
     unfolding Reads
     head_reads (Assign site x e) = one_reads e _
-    head_reads (Store site x index e) = reads_then _ _ (eval_reads index) (λ i. reads_then _ _ (eval_reads e) (λ z. reads_then _ _ (reads_place i (cell_count p x)) (λ k. reads_just {X = Effect} (Stored (first_cell p x + k) z))))
+    head_reads (Store site x index e) =
+        reads_then _ _ (eval_reads index)
+        (λ i. reads_then _ _ (eval_reads e) (λ z. reads_then _ _ (reads_place i (cell_count p x))
+        (λ k. reads_just {X = Effect} (Stored (first_cell p x + k) z))))
     head_reads (Print site e) = one_reads e _
     head_reads (If site cond a b) = one_reads cond _
     head_reads (While site cond a) = one_reads cond _
@@ -111,4 +123,5 @@ cells_tell_loads p input fuel k c before event there made =
     let g = runs_by_step p input fuel c in
     let within = slice_get_within (run_of p input fuel c).trace k event made in
     let next = slice_get-get_or (run_of p input fuel c).configs (suc k) before (omega (arith, g.one_more, within)) in
-    listed before.cells event.loads (subst (StepReads before.cells p input) (g.each k before (get_or (run_of p input fuel c).configs (suc k) before) event there made next) (step_reads p input before))
+    listed before.cells event.loads (subst (StepReads before.cells p input) (g.each k before (get_or (run_of p input fuel c).configs (suc k) before) event there
+    made next) (step_reads p input before))

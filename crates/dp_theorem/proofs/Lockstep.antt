@@ -1,8 +1,12 @@
 -- Lockstep: a stage over any piece of an iteration that agrees with the plan.
-use Rattle.dp_semantics.proofs.Names.{closes_at, ◌≡◌, refl, sym, ap, ◌∙◌, subst, append_assoc, ℕ, ◌+◌, ◌<◌, ◌≤◌, Bool, true, ◌||◌, List, [], ◌∷◌, ◌++◌, ℤ, length, length-append, sum_by, arith, append-nil, list_all, Word, Stmt, out-Stmt, Program, Plan, Event, followed, value_of, stage_of, first_site, Past, all_agree, event_agrees, event_as_assumed, pushed, words_of, word_list, Turn, turn_from, Epoch, and_parts, append_cancel_left}
+use Rattle.dp_semantics.proofs.Names.{closes_at, ◌≡◌, refl, sym, ap, ◌∙◌, subst, append_assoc, ℕ, ◌+◌, ◌<◌, ◌≤◌, Bool, true, ◌||◌, List, [], ◌∷◌, ◌++◌, ℤ}
+use Rattle.dp_semantics.proofs.Names.{length, length-append, sum_by, arith, append-nil, list_all, Word, Stmt, out-Stmt, Program, Plan, Event, followed}
+use Rattle.dp_semantics.proofs.Names.{value_of, stage_of, first_site, Past, all_agree, event_agrees, event_as_assumed, pushed, words_of, word_list, Turn}
+use Rattle.dp_semantics.proofs.Names.{turn_from, Epoch, and_parts, append_cancel_left}
 pub use Rattle.dp_semantics.proofs.Ways.{Goes, stays, goes}
 use Rattle.dp_semantics.proofs.Setting.{Fit}
-use Rattle.dp_theorem.proofs.Stepping.{stage_for, InStep, Moved, Advanced, advance, words_for, words_here, event_of, past_of, Stands, stands_next, own_site, form_of, stage_does}
+use Rattle.dp_theorem.proofs.Stepping.{stage_for, InStep, Moved, Advanced, advance, words_for, words_here, event_of, past_of, Stands, stands_next, own_site}
+use Rattle.dp_theorem.proofs.Stepping.{form_of, stage_does}
 
 -- the words of these events for stage t
 abbrev pub words_through : Program → Plan → ℕ → List Event → List Word
@@ -29,13 +33,15 @@ abbrev pub Has : Epoch → ℕ → List Event → (ℕ → List Word) → Turn �
 Has k s events left c = (t : ℕ) → 0 < t → t < s → word_list c.lists t ≡ words_through k.program k.plan t events ++ left t
 
 -- the words of the first event, which is of stage t, and those of the others after its step
-pub front_of : (k : Epoch) (s t : ℕ) (event : Event) (more : List Event) (left : ℕ → List Word) (c : Turn) → Has k s (event ∷ more) left c → stage_of k.program k.plan event.site ≡ t → 0 < t → t < s →
+pub front_of : (k : Epoch) (s t : ℕ) (event : Event) (more : List Event) (left : ℕ → List Word) (c : Turn) → Has k s (event ∷ more) left c →
+    stage_of k.program k.plan event.site ≡ t → 0 < t → t < s →
     word_list c.lists t ≡ words_of k.program k.plan event ++ (words_through k.program k.plan t more ++ left t)
 front_of k s t event more left c has here low high =
     has t low high ∙ append_assoc (words_for k.program k.plan t event) (words_through k.program k.plan t more) (left t)
     ∙ ap (λ ws. ws ++ (words_through k.program k.plan t more ++ left t)) (words_here k.program k.plan t event here)
 
-pub has_next : (k : Epoch) (s steps : ℕ) (event : Event) (more : List Event) (left : ℕ → List Word) (c d : Turn) → Has k s (event ∷ more) left c → Moved k s steps event c d → Has k s more left d
+pub has_next : (k : Epoch) (s steps : ℕ) (event : Event) (more : List Event) (left : ℕ → List Word) (c d : Turn) → Has k s (event ∷ more) left c →
+    Moved k s steps event c d → Has k s more left d
 has_next k s steps event more left c d has moved t low high =
     append_cancel_left (words_for k.program k.plan t event) (word_list d.lists t) (words_through k.program k.plan t more ++ left t)
     (sym (moved.lists t low high) ∙ has t low high ∙ append_assoc (words_for k.program k.plan t event) (words_through k.program k.plan t more) (left t))
@@ -44,14 +50,17 @@ module _ {k : Epoch} (ok : Fit k) {i : ℕ} where
   open k use {program, plan, input, base}
 
   -- the source stands after these events
-  pub stands_after : {to_do : List Stmt} {earlier : List Past} {cells : List ℤ} {events : List Event} {after : List Stmt} {then_cells : List ℤ} → Stands k i to_do earlier cells → Goes program input to_do cells events after then_cells →
+  pub stands_after : {to_do : List Stmt} {earlier : List Past} {cells : List ℤ} {events : List Event} {after : List Stmt} {then_cells : List ℤ} →
+      Stands k i to_do earlier cells → Goes program input to_do cells events after then_cells →
       Stands k i after (pushed i events earlier) then_cells
   stands_after at stays = at
   stands_after at (goes {v = v} e path) = stands_after (stands_next ok at v e) path
 
   -- A stage in step with the source stays so through events that agree with the plan.
-  pub lockstep : (s : ℕ) → 0 < s → {to_do : List Stmt} {earlier : List Past} {cells : List ℤ} {events : List Event} {after : List Stmt} {then_cells : List ℤ} → Stands k i to_do earlier cells → Goes program input to_do cells events after then_cells →
-      all_agree program plan base i earlier events ≡ true → list_all (event_as_assumed program plan) events ≡ true → (left : ℕ → List Word) (c : Turn) → length (c.own ++ words_through program plan s events) ≤ plan.words →
+  pub lockstep : (s : ℕ) → 0 < s → {to_do : List Stmt} {earlier : List Past} {cells : List ℤ} {events : List Event} {after : List Stmt} {then_cells : List ℤ} →
+      Stands k i to_do earlier cells → Goes program input to_do cells events after then_cells →
+      all_agree program plan base i earlier events ≡ true → list_all (event_as_assumed program plan) events ≡ true → (left : ℕ → List Word) (c : Turn) →
+      length (c.own ++ words_through program plan s events) ≤ plan.words →
       InStep k i s to_do earlier c → Has k s events left c → Through k i s after earlier events c
   lockstep s real at stays agree told left c fits b has = record {
     turn = c;
@@ -68,13 +77,18 @@ module _ {k : Epoch} (ok : Fit k) {i : ℕ} where
       let goes_so = and_parts (event_as_assumed program plan event) (list_all (event_as_assumed program plan) more) told in
       let size_all : length (c.own ++ (words_for program plan s event ++ words_through program plan s more)) ≤ plan.words = fits in
       let both = ap length (append_assoc c.own (words_for program plan s event) (words_through program plan s more)) in
-      let one : length (c.own ++ words_for program plan s event) ≤ plan.words = omega (arith, size_all, both, length-append (c.own ++ words_for program plan s event) (words_through program plan s more)) in
-      let a : Advanced k i s (followed x rest (out-Stmt x) (value_of v.value)) (past_of i x v ∷ earlier) event c = advance ok at s c b v real (form_of ok at _ v e) goes_so.0
-      (λ here. subst (λ (u : ℕ). (other : List ℤ) → Rattle.dp_theorem.proofs.Seeing.Sees k u i earlier other → Rattle.dp_theorem.proofs.Source.Gives k other x v) here (λ other sees. stage_does ok at other sees v e agrees.0) c.cells b.sees)
+      let one : length (c.own ++ words_for program plan s event) ≤ plan.words = omega
+      (arith, size_all, both, length-append (c.own ++ words_for program plan s event) (words_through program plan s more)) in
+      let a : Advanced k i s (followed x rest (out-Stmt x) (value_of v.value)) (past_of i x v ∷ earlier) event c = advance ok at s c b v real
+      (form_of ok at _ v e) goes_so.0
+      (λ here. subst (λ (u : ℕ). (other : List ℤ) → Rattle.dp_theorem.proofs.Seeing.Sees k u i earlier other →
+      Rattle.dp_theorem.proofs.Source.Gives k other x v) here (λ other sees. stage_does ok at other sees v e agrees.0) c.cells b.sees)
       one _ (λ before. front_of k s (stage_for k x) event more left c has refl (own_site ok at).staged before) in
       let joined : a.turn.own ++ words_through program plan s more ≡ c.own ++ (words_for program plan s event ++ words_through program plan s more) =
-      ap (λ ws. ws ++ words_through program plan s more) a.moved.own ∙ append_assoc c.own (words_for program plan s event) (words_through program plan s more) in
-      let r = lockstep s real (stands_next ok at v e) path agrees.1 goes_so.1 left a.turn (omega (arith, size_all, ap length joined)) a.in_step (has_next k s a.steps event more left c a.turn has a.moved) in
+      ap (λ ws. ws ++ words_through program plan s more) a.moved.own ∙ append_assoc c.own (words_for program plan s event)
+      (words_through program plan s more) in
+      let r = lockstep s real (stands_next ok at v e) path agrees.1 goes_so.1 left a.turn (omega (arith, size_all, ap length joined)) a.in_step
+      (has_next k s a.steps event more left c a.turn has a.moved) in
       record {
         turn = r.turn;
         steps = a.steps + r.steps;

@@ -1,5 +1,8 @@
 -- What an index amounts to, and how an assignment moves a variable.
-use Rattle.dp_semantics.proofs.Names.{◌≡◌, ◌⊎◌, inl, inr, refl, sym, ap, ◌∙◌, ℕ, zero, suc, ◌+◌, ◌<◌, ◌≤◌, ◌==◌, Bool, true, false, if◌then◌else◌, List, [], ◌∷◌, ℤ, pos, negsuc, get_or, Option, Some, None, Result, Ok, Err, arith, eqb-true, FaultKind, Expr, end_of-Expr, more_of-Expr, Program, Stmt, Stmt-F, Assign, Store, WithLoads, just, and_then, without_loads, place, load, first_cell, cell_count, eval, Effect, Stored, evaluated}
+use Rattle.dp_semantics.proofs.Names.{◌≡◌, ◌⊎◌, inl, inr, refl, sym, ap, ◌∙◌, ℕ, zero, suc, ◌+◌, ◌<◌, ◌≤◌, ◌==◌, Bool, true, false, if◌then◌else◌, List, []}
+use Rattle.dp_semantics.proofs.Names.{◌∷◌, ℤ, pos, negsuc, get_or, Option, Some, None, Result, Ok, Err, arith, eqb-true, FaultKind, Expr, end_of-Expr}
+use Rattle.dp_semantics.proofs.Names.{more_of-Expr, Program, Stmt, Stmt-F, Assign, Store, WithLoads, just, and_then, without_loads, place, load, first_cell}
+use Rattle.dp_semantics.proofs.Names.{cell_count, eval, Effect, Stored, evaluated}
 use Rattle.std.specs.Prelude.{◌+ℤ◌, ◌-ℤ◌, neg_ℤ}
 use Rattle.std.proofs.Common.{ap₂}
 use Rattle.std.proofs.lemmas.Int.{ints}
@@ -9,7 +12,7 @@ use Rattle.dp_base.specs.declared.BinOp.{BinOp}
 use Rattle.dp_base.specs.declared.BinOp.TheVariants as op
 use Rattle.std.specs.Option.{option_or}
 use Rattle.dp_tree.specs.declared.Expr.TheVariants as tree
-use Rattle.dp_plan.specs.Touch.{Touch, is_var, number_in, when_so, negated, added, offset, positive, moved_by, moves, stride_of, head_store}
+use Rattle.dp_plan.specs.Touch.{Touch, is_var, literal_in, when_so, opposite, added, offset, positive, moved_by, moves, stride_of, head_store}
 use Rattle.dp_theorem.proofs.Reading.{then_parts, place_is, Loaded}
 
 abbrev index_in : Option Touch → Option Expr
@@ -28,7 +31,7 @@ pub or_parts : (a b : Option ℤ) (o : ℤ) → option_or a b ≡ Some o → (a 
 or_parts (Some n) b o e = inl e
 or_parts None b o e = inr e
 
-pub negated_is : (a : Option ℤ) (o : ℤ) → negated a ≡ Some o → (n : ℤ) × (a ≡ Some n) × (o ≡ neg_ℤ n)
+pub negated_is : (a : Option ℤ) (o : ℤ) → opposite a ≡ Some o → (n : ℤ) × (a ≡ Some n) × (o ≡ neg_ℤ n)
 negated_is (Some n) o e = let same : neg_ℤ n ≡ o = cc e in (n, refl, sym same)
 negated_is None o e = absurd (cc)
 
@@ -64,7 +67,11 @@ module _ (p : Program) (input cells : List ℤ) (v : ℕ) where
 
   loaded_is : (x : ℕ) (w : WithLoads ℤ) → load cells (first_cell p (record { 0 = x })) ≡ Ok w → x ≡ v → w.value ≡ held
   loaded_is x w e same =
-      let read : record { value = get_or cells (first_cell p (record { 0 = x })) (pos 0); loads = record { cell = first_cell p (record { 0 = x }); value = get_or cells (first_cell p (record { 0 = x })) (pos 0) } ∷ [] } ≡ w = cc e in
+      let read : record {
+        value = get_or cells (first_cell p (record { 0 = x })) (pos
+            0);
+        loads = record { cell = first_cell p (record { 0 = x }); value = get_or cells (first_cell p (record { 0 = x })) (pos 0) } ∷ [];
+      } ≡ w = cc e in
       sym (ap (λ (u : WithLoads ℤ). u.value) read) ∙ ap (λ (y : ℕ). get_or cells (first_cell p (record { 0 = y })) (pos 0)) same
 
   var_value : (e : Expr) (w : WithLoads ℤ) → is_var v e ≡ true → eval p input cells e ≡ Ok w → w.value ≡ held
@@ -72,7 +79,7 @@ module _ (p : Program) (input cells : List ℤ) (v : ℕ) where
   var_value (tree.Scalar x) w t e = loaded_is x.0 w e (eqb-true x.0 v t)
   var_value _ w t e = absurd (cc)
 
-  number_value : (e : Expr) (n : ℤ) (w : WithLoads ℤ) → number_in e ≡ Some n → eval p input cells e ≡ Ok w → w.value ≡ n
+  number_value : (e : Expr) (n : ℤ) (w : WithLoads ℤ) → literal_in e ≡ Some n → eval p input cells e ≡ Ok w → w.value ≡ n
   unfolding eval
   number_value (tree.Number m) n w t e =
       let read : record { value = m; loads = [] } ≡ w = cc e in
@@ -88,7 +95,8 @@ module _ (p : Program) (input cells : List ℤ) (v : ℕ) where
     pub right_is : eval p input cells b ≡ Ok right
     pub result : binary_result o left.value right.value ≡ Ok w.value
 
-  operands : (o : BinOp) (a b : Expr) (w : WithLoads ℤ) → and_then (eval p input cells a) (λ x. and_then (eval p input cells b) (λ y. without_loads (binary_result o x y))) ≡ Ok w → Operands o a b w
+  operands : (o : BinOp) (a b : Expr) (w : WithLoads ℤ) →
+      and_then (eval p input cells a) (λ x. and_then (eval p input cells b) (λ y. without_loads (binary_result o x y))) ≡ Ok w → Operands o a b w
   operands o a b w e =
       let q = then_parts (eval p input cells a) (λ x. and_then (eval p input cells b) (λ y. without_loads (binary_result o x y))) w e in
       let r = then_parts (eval p input cells b) (λ y. without_loads (binary_result o q.first.value y)) q.second q.next in
@@ -97,20 +105,30 @@ module _ (p : Program) (input cells : List ℤ) (v : ℕ) where
         right = r.first;
         left_is = q.was;
         right_is = r.was;
-        result = result_of (binary_result o q.first.value r.first.value) r.second r.next ∙ sym (ap (λ (u : WithLoads ℤ). Ok u.value) q.is ∙ ap (λ (u : WithLoads ℤ). Ok u.value) r.is);
+        result = result_of (binary_result o q.first.value r.first.value) r.second r.next ∙ sym (ap (λ (u : WithLoads ℤ). Ok u.value) q.is
+            ∙ ap (λ (u : WithLoads ℤ). Ok u.value) r.is);
       }
 
   added_value : (o : BinOp) (a b : Expr) (n : ℤ) (w : WithLoads ℤ) → added v o a b ≡ Some n → Operands o a b w → w.value ≡ held +ℤ n
   added_value op.Add a b n w t q =
       let sum = sum_is q.left.value q.right.value w.value q.result in
-      elim (or_parts (when_so (is_var v a) (number_in b)) (when_so (is_var v b) (number_in a)) n t) [
-        | inl h ↦ let both = when_parts (is_var v a) (number_in b) n h in omega (arith, ints, sum, var_value a q.left both.0 q.left_is, number_value b n q.right both.1 q.right_is)
-        | inr h ↦ let both = when_parts (is_var v b) (number_in a) n h in omega (arith, ints, sum, var_value b q.right both.0 q.right_is, number_value a n q.left both.1 q.left_is)
+      elim (or_parts (when_so (is_var v a) (literal_in b)) (when_so (is_var v b) (literal_in a)) n t) [
+        | inl h ↦ let both = when_parts (is_var v a) (literal_in b) n h in
+            omega (arith, ints, sum, var_value a q.left both.0 q.left_is, number_value b n q.right both.1 q.right_is)
+        | inr h ↦ let both = when_parts (is_var v b) (literal_in a) n h in
+            omega (arith, ints, sum, var_value b q.right both.0 q.right_is, number_value a n q.left both.1 q.left_is)
       ]
   added_value op.Sub a b n w t q =
-      let minus = negated_is (when_so (is_var v a) (number_in b)) n t in
-      let both = when_parts (is_var v a) (number_in b) minus.0 minus.1 in
-      omega (arith, ints, difference_is q.left.value q.right.value w.value q.result, var_value a q.left both.0 q.left_is, number_value b minus.0 q.right both.1 q.right_is, minus.2)
+      let minus = negated_is (when_so (is_var v a) (literal_in b)) n t in
+      let both = when_parts (is_var v a) (literal_in b) minus.0 minus.1 in
+      omega (
+        arith,
+        ints,
+        difference_is q.left.value q.right.value w.value q.result,
+        var_value a q.left both.0 q.left_is,
+        number_value b minus.0 q.right both.1 q.right_is,
+        minus.2,
+      )
   added_value _ a b n w t q = absurd (cc)
 
   -- an index by its offset
@@ -125,12 +143,26 @@ module _ (p : Program) (input cells : List ℤ) (v : ℕ) where
 
   moved_value : (o : BinOp) (a b : Expr) (k : ℤ) (w : WithLoads ℤ) → moved_by v o a b ≡ Some k → Operands o a b w → w.value ≡ held +ℤ k
   moved_value op.Add a b k w t q =
-      let both = when_parts (is_var v a) (positive (number_in b)) k t in
-      omega (arith, ints, sum_is q.left.value q.right.value w.value q.result, var_value a q.left both.0 q.left_is, number_value b k q.right (positive_is (number_in b) k both.1) q.right_is)
+      let both = when_parts (is_var v a) (positive (literal_in b)) k t in
+      omega (
+        arith,
+        ints,
+        sum_is q.left.value q.right.value w.value q.result,
+        var_value a q.left both.0 q.left_is,
+        number_value b k q.right (positive_is
+            (literal_in b) k both.1) q.right_is,
+      )
   moved_value op.Sub a b k w t q =
-      let minus = negated_is (when_so (is_var v a) (positive (number_in b))) k t in
-      let both = when_parts (is_var v a) (positive (number_in b)) minus.0 minus.1 in
-      omega (arith, ints, difference_is q.left.value q.right.value w.value q.result, var_value a q.left both.0 q.left_is, number_value b minus.0 q.right (positive_is (number_in b) minus.0 both.1) q.right_is, minus.2)
+      let minus = negated_is (when_so (is_var v a) (positive (literal_in b))) k t in
+      let both = when_parts (is_var v a) (positive (literal_in b)) minus.0 minus.1 in
+      omega (
+        arith,
+        ints,
+        difference_is q.left.value q.right.value w.value q.result,
+        var_value a q.left both.0 q.left_is,
+        number_value b minus.0 q.right (positive_is (literal_in b) minus.0 both.1) q.right_is,
+        minus.2,
+      )
   moved_value _ a b k w t q = absurd (cc)
 
   moves_value : (e : Expr) (k : ℤ) (w : WithLoads ℤ) → moves v e ≡ Some k → eval p input cells e ≡ Ok w → w.value ≡ held +ℤ k
@@ -139,7 +171,8 @@ module _ (p : Program) (input cells : List ℤ) (v : ℕ) where
   moves_value _ k w t e = absurd (cc)
 
   -- the assignment stores v with its stride added
-  pub stride_value : (h : Stmt-F Stmt) (k : ℤ) (w : WithLoads Effect) → stride_of v h ≡ Some k → evaluated p input cells h ≡ Ok w → w.value ≡ Stored (first_cell p (record { 0 = v })) (held +ℤ k)
+  pub stride_value : (h : Stmt-F Stmt) (k : ℤ) (w : WithLoads Effect) → stride_of v h ≡ Some k → evaluated p input cells h ≡ Ok w →
+      w.value ≡ Stored (first_cell p (record { 0 = v })) (held +ℤ k)
   stride_value (Assign site x e) k w t gave =
       let both = when_parts (x.0 == v) (moves v e) k t in
       let q = then_parts (eval p input cells e) (λ z. just (Stored (first_cell p x) z)) w gave in
@@ -149,25 +182,31 @@ module _ (p : Program) (input cells : List ℤ) (v : ℕ) where
   stride_value _ k w t gave = absurd (cc)
 
   -- a load of an element by its index's offset
-  pub load_lands : (x : ℕ) (index : Expr) (n : ℤ) (c : ℕ) → offset v index ≡ Some n → Loaded p input cells x (Some index) c → pos c ≡ pos (first_cell p (record { 0 = x })) +ℤ (held +ℤ n)
+  pub load_lands : (x : ℕ) (index : Expr) (n : ℤ) (c : ℕ) → offset v index ≡ Some n → Loaded p input cells x (Some index) c →
+      pos c ≡ pos (first_cell p (record { 0 = x })) +ℤ (held +ℤ n)
   load_lands x index n c t l = omega (arith, ints, offset_value index n l.0 t l.2, l.3, l.4)
 
   -- a store of an element by its index's offset
-  pub store_lands : (h : Stmt-F Stmt) (x : ℕ) (index : Expr) (n : ℤ) (w : WithLoads Effect) → head_store h ≡ Some (record { variable = x; index = Some index }) → offset v index ≡ Some n → evaluated p input cells h ≡ Ok w →
-      (c : ℕ) × (z : ℤ) × (w.value ≡ Stored c z) × (pos c ≡ pos (first_cell p (record { 0 = x })) +ℤ (held +ℤ n)) × (first_cell p (record { 0 = x }) ≤ c) × (c < first_cell p (record { 0 = x }) + cell_count p (record { 0 = x }))
+  pub store_lands : (h : Stmt-F Stmt) (x : ℕ) (index : Expr) (n : ℤ) (w : WithLoads Effect) → head_store h ≡ Some (record { variable = x; index = Some index })
+      → offset v index ≡ Some n → evaluated p input cells h ≡ Ok w →
+      (c : ℕ) × (z : ℤ) × (w.value ≡ Stored c z) × (pos c ≡ pos (first_cell p (record { 0 = x })) +ℤ (held +ℤ n)) × (first_cell p (record { 0 = x }) ≤ c)
+      × (c < first_cell p (record { 0 = x }) + cell_count p (record { 0 = x }))
   store_lands (Store site y i e) x index n w s t gave =
       let here : y.0 ≡ x = ap variable_in s in
       let found : Some i ≡ Some index = ap index_in s in
       let same : i ≡ index = cc found in
-      let q = then_parts (eval p input cells i) (λ j. and_then (eval p input cells e) (λ z. and_then (place j (cell_count p y)) (λ k. just (Stored (first_cell p y + k) z)))) w gave in
-      let r = then_parts (eval p input cells e) (λ z. and_then (place q.first.value (cell_count p y)) (λ k. just (Stored (first_cell p y + k) z))) q.second q.next in
+      let q = then_parts (eval p input cells i)
+      (λ j. and_then (eval p input cells e) (λ z. and_then (place j (cell_count p y)) (λ k. just (Stored (first_cell p y + k) z)))) w gave in
+      let r = then_parts (eval p input cells e) (λ z. and_then (place q.first.value (cell_count p y))
+      (λ k. just (Stored (first_cell p y + k) z))) q.second q.next in
       let f = then_parts (place q.first.value (cell_count p y)) (λ k. just (Stored (first_cell p y + k) r.first.value)) r.second r.next in
       let read : record { value = Stored (first_cell p y + f.first.value) r.first.value; loads = [] } ≡ f.second = cc f.next in
       let at = place_is q.first.value (cell_count p y) f.first f.was in
       let value = offset_value i n q.first (ap (offset v) same ∙ t) q.was in (
         first_cell p y + f.first.value,
         r.first.value,
-        ap (λ (u : WithLoads Effect). u.value) q.is ∙ ap (λ (u : WithLoads Effect). u.value) r.is ∙ ap (λ (u : WithLoads Effect). u.value) f.is ∙ sym (ap (λ (u : WithLoads Effect). u.value) read),
+        ap (λ (u : WithLoads Effect). u.value) q.is ∙ ap (λ (u : WithLoads Effect). u.value) r.is ∙ ap (λ (u : WithLoads Effect). u.value) f.is
+            ∙ sym (ap (λ (u : WithLoads Effect). u.value) read),
         omega (arith, ints, at_first here, at.0, value),
         omega (arith, at_first here),
         omega (arith, at_first here, at_count here, at.2),

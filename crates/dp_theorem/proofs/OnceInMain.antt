@@ -1,12 +1,15 @@
 -- Each region of an inlined program stands once in `main`, with its own sites inside and all others outside.
-use Rattle.dp_semantics.proofs.Names.{◌≡◌, ◌⊎◌, inl, inr, refl, sym, ap, ◌∙◌, subst, ℕ, suc, ◌+◌, ◌-◌, ◌<◌, ◌≤◌, ◌==◌, Bool, true, false, not, ◌&&◌, List, [], ◌∷◌, ◌++◌, length, Some, slice_get, nat_le, list_all, arith, le-leb, lt-leb, length-map, and_parts, and_from, end_of-Stmt, more_of-Stmt, Row_of-Stmt, hidden-the_row-Stmt-0, Region, Program, RegionInfo, Stmt, Access, accesses, accesses_in, is_free, is_free_in}
+use Rattle.dp_semantics.proofs.Names.{◌≡◌, ◌⊎◌, inl, inr, refl, sym, ap, ◌∙◌, subst, ℕ, suc, ◌+◌, ◌-◌, ◌<◌, ◌≤◌, ◌==◌, Bool, true, false, not, ◌&&◌, List, []}
+use Rattle.dp_semantics.proofs.Names.{◌∷◌, ◌++◌, length, Some, slice_get, nat_le, list_all, arith, le-leb, lt-leb, length-map, and_parts, and_from, end_of-Stmt}
+use Rattle.dp_semantics.proofs.Names.{more_of-Stmt, Row_of-Stmt, hidden-the_row-Stmt-0, Region, Program, RegionInfo, Stmt, Access, accesses, accesses_in}
+use Rattle.dp_semantics.proofs.Names.{is_free, is_free_in}
 use Rattle.dp_tree.specs.declared.Stmt.TheVariants as tree
 use Rattle.dp_tree.specs.Inlined.{IsInlined}
 use Rattle.dp_tree.specs.Numbering.{site_numbers, site_numbers_all}
 use Rattle.dp_tree.specs.RegionLaws.{StandsOnce, in_range, is_site_of, is_other_site, keeps, keeps_own}
 use Rattle.dp_tree.specs.Statements.{everywhere_in}
 use Rattle.dp_tree.proofs.Inner.{inner_hidden}
-use Rattle.dp_plan.specs.Written.{site_in}
+use Rattle.dp_plan.specs.Written.{access_site}
 use Rattle.dp_semantics.specs.ValidPlan.{RegionsStandOnce}
 use Rattle.dp_semantics.proofs.Each.{Each, each_map, each_split, each_join}
 use Rattle.dp_semantics.proofs.Heads.{accesses_all, accesses_at, accesses_out, all_free, free_hidden}
@@ -30,7 +33,8 @@ module _ (test : ℕ → Bool) (r : ℕ) where
     keeps_from (tree.If' site cond _ a _ b) w h =
         let free = and_parts (is_free_in r a) (is_free_in r b) w in
         let sites = each_split Passes (accesses_in a) (accesses_in b) h.1 in
-        and_from (test site.0) _ h.0 (and_from (everywhere_in (keeps_own test r) a) (everywhere_in (keeps_own test r) b) (keeps_from_in a free.0 sites.0) (keeps_from_in b free.1 sites.1))
+        and_from (test site.0) _ h.0 (and_from (everywhere_in (keeps_own test r) a) (everywhere_in (keeps_own test r) b) (keeps_from_in a free.0 sites.0)
+        (keeps_from_in b free.1 sites.1))
     keeps_from (tree.While' site cond _ a) w h = and_from (test site.0) (everywhere_in (keeps_own test r) a) h.0 (keeps_from_in a w h.1)
     keeps_from (tree.Region' q site cond _ a) w h =
         let free = and_parts (not (q == r)) (is_free_in r a) w in
@@ -54,7 +58,8 @@ module _ (test : ℕ → Bool) (r : ℕ) where
 
 -- the sites of statements that are numbered one by one from k
 within : (k : ℕ) (x : Stmt) → Ascends k (site_numbers x) → Each (λ (u : Access). Between k (length (site_numbers x)) u.site) (accesses x)
-within k x h = each_of_map (Between k (length (site_numbers x))) site_in (accesses x) (subst (λ (ns : List ℕ). Each (Between k (length (site_numbers x))) ns) (sites_are x) (ascends_between k (site_numbers x) h))
+within k x h = each_of_map (Between k (length (site_numbers x))) access_site (accesses x)
+    (subst (λ (ns : List ℕ). Each (Between k (length (site_numbers x))) ns) (sites_are x) (ascends_between k (site_numbers x) h))
 
 -- behind the first statements, whose numbers are lower, the numbers go on
 record Front (k : ℕ) (front behind : List Stmt) : Type 0 where
@@ -72,7 +77,8 @@ front_of k (x ∷ a) b h =
       next = later.next;
       up = omega (arith, later.up);
       lower = each_join (λ (u : Access). u.site < later.next) (accesses x) (accesses_all a)
-          (each_map (λ (u : Access). Between k (length (site_numbers x)) u.site) (λ (u : Access). u.site < later.next) (λ u b. omega (arith, b.1, later.up)) (accesses x) (within k x parts.0)) later.lower;
+          (each_map (λ (u : Access). Between k (length (site_numbers x)) u.site) (λ (u : Access). u.site < later.next) (λ u b. omega (arith, b.1, later.up))
+          (accesses x) (within k x parts.0)) later.lower;
       order = later.order;
     }
 
@@ -82,7 +88,8 @@ higher k (x ∷ xs) h =
     let parts = ascends_split k (site_numbers x) (site_numbers_all xs) h in
     each_join (λ (u : Access). k ≤ u.site) (accesses x) (accesses_all xs)
     (each_map (λ (u : Access). Between k (length (site_numbers x)) u.site) (λ (u : Access). k ≤ u.site) (λ u b. b.0) (accesses x) (within k x parts.0))
-    (each_map (λ (u : Access). k + length (site_numbers x) ≤ u.site) (λ (u : Access). k ≤ u.site) (λ u b. omega (arith, b)) (accesses_all xs) (higher (k + length (site_numbers x)) xs parts.1))
+    (each_map (λ (u : Access). k + length (site_numbers x) ≤ u.site) (λ (u : Access). k ≤ u.site) (λ u b. omega (arith, b)) (accesses_all xs)
+    (higher (k + length (site_numbers x)) xs parts.1))
 
 same_first : (k m : ℕ) (ns : List ℕ) → 0 < length ns → Ascends k ns → Ascends m ns → k ≡ m
 same_first k m [] some a b = absurd (omega (arith, some))
@@ -90,11 +97,13 @@ same_first k m (n ∷ ns) some a b = sym a.0 ∙ b.0
 
 module _ {p : Program} (inlined : IsInlined p) (r : ℕ) (entry : RegionInfo) (at : slice_get p.regions (r - 1) ≡ Some entry) (q : RegionAt r p.main entry) where
   split : Split r p.main q.statement
-  split = split_of p (record { region = r; words = 0; stages = []; stage_of = []; assume = []; proved = false; checked_at = [] }) p.main q.statement q.only (all_alone r 1 p.main inlined.regions)
+  split = split_of p (record { region = r; words = 0; stages = []; stage_of = []; assume = []; proved = false; checked_at = [] }) p.main q.statement q.only
+      (all_alone r 1 p.main inlined.regions)
 
   -- the numbers before the region, its own, and those behind it
   front : Front 1 split.front (q.statement ∷ split.tail)
-  front = front_of 1 split.front (q.statement ∷ split.tail) (subst (λ (xs : List Stmt). Ascends 1 (site_numbers_all xs)) split.main_is (subst (λ (ns : List ℕ). Ascends 1 ns) (sym inlined.sites) (ascends-numbers_from 1 (length p.sites))))
+  front = front_of 1 split.front (q.statement ∷ split.tail) (subst (λ (xs : List Stmt). Ascends 1 (site_numbers_all xs)) split.main_is
+      (subst (λ (ns : List ℕ). Ascends 1 ns) (sym inlined.sites) (ascends-numbers_from 1 (length p.sites))))
 
   parts : Ascends front.next (site_numbers q.statement) × Ascends (front.next + length (site_numbers q.statement)) (site_numbers_all split.tail)
   parts = ascends_split front.next (site_numbers q.statement) (site_numbers_all split.tail) front.order
@@ -109,10 +118,11 @@ module _ {p : Program} (inlined : IsInlined p) (r : ℕ) (entry : RegionInfo) (a
   own = subst (λ (us : List Access). Each Own us) shown (between inlined r entry at q)
 
   many : length (site_numbers q.statement) ≡ length (accesses q.statement)
-  many = ap length (sites_are q.statement) ∙ length-map (accesses q.statement) site_in
+  many = ap length (sites_are q.statement) ∙ length-map (accesses q.statement) access_site
 
   begins : front.next ≡ entry.first.0
-  begins = same_first front.next entry.first.0 (site_numbers q.statement) some parts.0 (subst (λ (ns : List ℕ). Ascends entry.first.0 ns) (sym (sites_are q.statement)) q.sites)
+  begins = same_first front.next entry.first.0 (site_numbers q.statement) some parts.0 (subst (λ (ns : List ℕ). Ascends entry.first.0 ns)
+      (sym (sites_are q.statement)) q.sites)
     where
       one : length (accesses q.statement) ≡ suc (length (accesses_all q.body))
       one = ap length shown
@@ -121,7 +131,8 @@ module _ {p : Program} (inlined : IsInlined p) (r : ℕ) (entry : RegionInfo) (a
       some = omega (arith, many, one)
 
   is_own : (site : ℕ) → Between entry.first.0 (length (accesses q.statement)) site → is_site_of p r site ≡ true
-  is_own site b = ap (λ o. in_range o site) at ∙ and_from (nat_le entry.first.0 site) (nat_le site entry.last.0) (le-leb _ _ b.0) (le-leb _ _ (omega (arith, b.1, q.last)))
+  is_own site b = ap (λ o. in_range o site) at ∙ and_from (nat_le entry.first.0 site) (nat_le site entry.last.0) (le-leb _ _ b.0)
+      (le-leb _ _ (omega (arith, b.1, q.last)))
 
   not_both : (b c : Bool) → (b ≡ false) ⊎ (c ≡ false) → not (b && c) ≡ true
   not_both true c (inl e) = absurd (cc)
@@ -148,9 +159,11 @@ module _ {p : Program} (inlined : IsInlined p) (r : ℕ) (entry : RegionInfo) (a
         (each_map Own (λ (u : Access). is_site_of p r u.site ≡ true) (λ u b. is_own u.site b) (accesses_all q.body) own.1);
     inner = sym (inner_hidden q.body) ∙ q.plain;
     earlier = keeps_from_all (is_other_site p r) r split.front split.front_free
-        (each_map (λ (u : Access). u.site < front.next) (λ (u : Access). is_other_site p r u.site ≡ true) (λ u b. is_other u.site (inl (omega (arith, b, begins)))) (accesses_all split.front) front.lower);
+        (each_map (λ (u : Access). u.site < front.next) (λ (u : Access). is_other_site p r u.site ≡ true)
+        (λ u b. is_other u.site (inl (omega (arith, b, begins)))) (accesses_all split.front) front.lower);
     later = keeps_from_all (is_other_site p r) r split.tail split.tail_free
-        (each_map (λ (u : Access). front.next + length (site_numbers q.statement) ≤ u.site) (λ (u : Access). is_other_site p r u.site ≡ true) (λ u b. is_other u.site (inr (omega (arith, b, begins, many, q.last)))) (accesses_all split.tail)
+        (each_map (λ (u : Access). front.next + length (site_numbers q.statement) ≤ u.site) (λ (u : Access). is_other_site p r u.site ≡ true)
+        (λ u b. is_other u.site (inr (omega (arith, b, begins, many, q.last)))) (accesses_all split.tail)
         (higher (front.next + length (site_numbers q.statement)) split.tail parts.1));
   }
 

@@ -1,5 +1,12 @@
 -- In one stage an iteration is clean where it has ended and its events fit.
-use Rattle.dp_semantics.proofs.Names.{leaves, or-true, get_or-replicate, ◌≤◌, ◌-◌, leb-true, replicate, slice_get, slice_index, ◌≡◌, ◌⊎◌, inl, inr, refl, sym, ap, ◌∙◌, subst, ℕ, suc, ◌+◌, ◌==◌, Bool, true, false, not, ◌&&◌, ◌||◌, if◌then◌else◌, List, [], ◌∷◌, ℤ, length, nat_le, nat_lt, Option, Some, None, arith, eq-eqb, ne_eqb, cases_eq, sum_by-cons, list_any, list_all, flat_map, Program, Plan, Stmt, RegionInfo, Event, iteration, has_ended, memory_after, Access, accesses, stage_of, first_site_of, stores_var, is_replicated, is_body_local, is_region_at, region_in, region_accesses, is_stored_after, is_stored_beside, is_apart, is_apart_between, may_differ, is_checked_access, is_checked, Past, loads_agree, all_agree, event_as_assumed, events_since, event_words, words_at, word_count, one_stage_plan, sites_between, lies_between, is_numbered, is_single, region_alone, stands_alone, run_of, Config, StandsInMain, CleanInOneStage, and_parts}
+use Rattle.dp_semantics.proofs.Names.{leaves, or-true, get_or-replicate, ◌≤◌, ◌-◌, leb-true, replicate, slice_get, slice_index, ◌≡◌, ◌⊎◌, inl, inr, refl, sym}
+use Rattle.dp_semantics.proofs.Names.{ap, ◌∙◌, subst, ℕ, suc, ◌+◌, ◌==◌, Bool, true, false, not, ◌&&◌, ◌||◌, if◌then◌else◌, List, [], ◌∷◌, ℤ, length, nat_le}
+use Rattle.dp_semantics.proofs.Names.{nat_lt, Option, Some, None, arith, eq-eqb, ne_eqb, cases_eq, sum_by-cons, list_any, list_all, flat_map, Program, Plan}
+use Rattle.dp_semantics.proofs.Names.{Stmt, RegionInfo, Event, iteration, has_ended, memory_after, Access, accesses, stage_of, first_site_of, stores_var}
+use Rattle.dp_semantics.proofs.Names.{is_replicated, is_body_local, is_region_at, region_in, region_accesses, is_stored_after, is_stored_beside, is_apart}
+use Rattle.dp_semantics.proofs.Names.{is_apart_between, may_differ, is_checked_access, is_checked, Past, loads_agree, all_agree, event_as_assumed, events_since}
+use Rattle.dp_semantics.proofs.Names.{event_words, words_at, word_count, one_stage_plan, sites_between, lies_between, is_numbered, is_single, region_alone}
+use Rattle.dp_semantics.proofs.Names.{stands_alone, run_of, Config, StandsInMain, CleanInOneStage, and_parts}
 use Rattle.dp_theorem.proofs.Fitting.{split_of}
 use Rattle.dp_theorem.proofs.Alone.{Lone, AtSite, found_is}
 use Rattle.dp_theorem.proofs.RegionSites.{iteration_sites}
@@ -12,7 +19,8 @@ never_beside true false c d e = refl
 never_beside false false c d e = refl
 never_beside a true c d e = absurd (cc)
 
-pub numbered_first : (p : Program) (r site : ℕ) (o : Option RegionInfo) → slice_get p.regions (r - 1) ≡ o → lies_between site o ≡ true → stage_of p (one_stage_plan p r) site ≡ 1
+pub numbered_first : (p : Program) (r site : ℕ) (o : Option RegionInfo) → slice_get p.regions (r - 1) ≡ o → lies_between site o ≡ true →
+    stage_of p (one_stage_plan p r) site ≡ 1
 numbered_first p r site None e h = absurd (cc)
 numbered_first p r site (Some info) e h =
     let both = and_parts (nat_le info.first.0 site) (nat_le site info.last.0) h in
@@ -31,20 +39,27 @@ module _ (p : Program) (r : ℕ) (alone : stands_alone p r ≡ true) where
   First u = stage_of p plan u.site ≡ 1
 
   tests : (is_single (region_in p r) ≡ true) × (list_all (region_alone r) p.main ≡ true) × (list_all (is_numbered p r) (region_accesses p plan) ≡ true)
-  tests = let one = and_parts (is_single (region_in p r)) _ alone in let two = and_parts (list_all (region_alone r) p.main) (list_all (is_numbered p r) (region_accesses p plan)) one.1 in (one.0, two.0, two.1)
+  tests = let one = and_parts (is_single (region_in p r)) _ alone in
+      let two = and_parts (list_all (region_alone r) p.main) (list_all (is_numbered p r) (region_accesses p plan)) one.1 in (one.0, two.0, two.1)
 
   all_first : Each First (region_accesses p plan)
-  all_first = each_map (λ u. is_numbered p r u ≡ true) First (λ u h. numbered_first p r u.site (slice_get p.regions (r - 1)) refl h) (region_accesses p plan) (all_of (is_numbered p r) (region_accesses p plan) tests.2)
+  all_first = each_map (λ u. is_numbered p r u ≡ true) First (λ u h. numbered_first p r u.site (slice_get p.regions (r - 1)) refl h) (region_accesses p plan)
+      (all_of (is_numbered p r) (region_accesses p plan) tests.2)
 
   same_there : (site x : ℕ) → may_differ p plan 1 site x ≡ false
   same_there site x =
-      ap (λ (b : Bool). b || list_any (λ (d : Access). is_stored_beside p plan 1 x d && not (is_apart_between p plan site d.site)) (region_accesses p plan)) (none_make (λ (d : Access). is_stored_after p plan 1 x d && not (is_apart p plan site d.site)) (region_accesses p plan)
-      (each_map First _ (λ d e. and_left (is_stored_after p plan 1 x d) (not (is_apart p plan site d.site)) (and_right (stores_var x d) (nat_lt 1 (stage_of p plan d.site)) (ap (nat_lt 1) e))) (region_accesses p plan) all_first))
+      ap (λ (b : Bool). b || list_any (λ (d : Access). is_stored_beside p plan 1 x d && not (is_apart_between p plan site d.site)) (region_accesses p plan))
+      (none_make (λ (d : Access). is_stored_after p plan 1 x d && not (is_apart p plan site d.site)) (region_accesses p plan)
+      (each_map First _ (λ d e. and_left (is_stored_after p plan 1 x d) (not (is_apart p plan site d.site))
+      (and_right (stores_var x d) (nat_lt 1 (stage_of p plan d.site)) (ap (nat_lt 1) e))) (region_accesses p plan) all_first))
       ∙ none_make (λ (d : Access). is_stored_beside p plan 1 x d && not (is_apart_between p plan site d.site)) (region_accesses p plan)
-      (each_map First _ (λ d e. and_left (is_stored_beside p plan 1 x d) (not (is_apart_between p plan site d.site)) (never_beside (stores_var x d) (is_replicated plan 1) (stage_of p plan d.site == 1) (not (is_body_local p plan x)) refl)) (region_accesses p plan) all_first)
+      (each_map First _ (λ d e. and_left (is_stored_beside p plan 1 x d) (not (is_apart_between p plan site d.site))
+      (never_beside (stores_var x d) (is_replicated plan 1) (stage_of p plan d.site == 1) (not (is_body_local p plan x)) refl))
+      (region_accesses p plan) all_first)
 
   pub unchecked : (site : ℕ) → is_checked p plan site ≡ false
-  unchecked site = none_make (is_checked_access p plan site) (region_accesses p plan) (each_map First (λ u. is_checked_access p plan site u ≡ false) here (region_accesses p plan) all_first)
+  unchecked site = none_make (is_checked_access p plan site) (region_accesses p plan) (each_map First (λ u. is_checked_access p plan site u ≡ false) here
+      (region_accesses p plan) all_first)
     where
       here : (u : Access) → stage_of p plan u.site ≡ 1 → is_checked_access p plan site u ≡ false
       here u one = by (cases_eq u.site site)
@@ -57,7 +72,8 @@ module _ (p : Program) (r : ℕ) (alone : stands_alone p r ≡ true) where
   all_seen : (base : List ℤ) (i : ℕ) (earlier : List Past) (events : List Event) → all_agree p plan base i earlier events ≡ true
   all_seen base i earlier [] = refl
   all_seen base i earlier (event ∷ rest) =
-      ap (λ (b : Bool). (not b || loads_agree p plan base i earlier (stage_of p plan event.site) event.loads) && all_agree p plan base i (record { iteration = i; event = event } ∷ earlier) rest) (unchecked event.site)
+      ap (λ (b : Bool). (not b || loads_agree p plan base i earlier (stage_of p plan event.site) event.loads) && all_agree p plan base i
+      (record { iteration = i; event = event } ∷ earlier) rest) (unchecked event.site)
       ∙ all_seen base i (record { iteration = i; event = event } ∷ earlier) rest
 
   none_assumed : (events : List Event) → Each (λ event. stage_of p plan event.site ≡ 1) events → list_all (event_as_assumed p plan) events ≡ true
@@ -69,7 +85,8 @@ module _ (p : Program) (r : ℕ) (alone : stands_alone p r ≡ true) where
   one_word : (events : List Event) → Each (λ event. stage_of p plan event.site ≡ 1) events → word_count p plan events 1 ≡ length events
   one_word [] e = refl
   one_word (event ∷ rest) e =
-      let here : words_at p plan 1 event ≡ 1 = ap (λ (b : Bool). if b then event_words p plan event else 0) (eq-eqb (stage_of p plan event.site) 1 e.0) ∙ ap (λ (b : Bool). if b then length event.loads + 1 else 1) (unchecked event.site) in
+      let here : words_at p plan 1 event ≡ 1 = ap (λ (b : Bool). if b then event_words p plan event else 0) (eq-eqb (stage_of p plan event.site) 1 e.0)
+      ∙ ap (λ (b : Bool). if b then length event.loads + 1 else 1) (unchecked event.site) in
       omega (arith, sum_by-cons (words_at p plan 1) event rest, here, one_word rest e.1)
 
   four_tests : (h x y z w : Bool) → x ≡ true → y ≡ true → z ≡ w → (h && x && y && (z && true)) ≡ (h && w)
@@ -99,13 +116,17 @@ module _ (p : Program) (r : ℕ) (alone : stands_alone p r ≡ true) where
         sites = (each_split First (accesses found.0) [] (subst (λ (xs : List Stmt). Each First (flat_map accesses xs)) found.1 all_first)).0;
       }
 
-  all_events : (input : List ℤ) (fuel : ℕ) (c : Config) → StandsInMain p c → (i : ℕ) → Each (λ event. stage_of p plan event.site ≡ 1) (iteration (run_of p input fuel c) r i)
-  all_events input fuel c begun i = each_map (AtSite First) (λ event. stage_of p plan event.site ≡ 1) (λ event found. ap (stage_of p plan) (sym found.1) ∙ found.2) (iteration (run_of p input fuel c) r i) (iteration_sites lone input fuel c begun i)
+  all_events : (input : List ℤ) (fuel : ℕ) (c : Config) → StandsInMain p c → (i : ℕ) →
+      Each (λ event. stage_of p plan event.site ≡ 1) (iteration (run_of p input fuel c) r i)
+  all_events input fuel c begun i = each_map (AtSite First) (λ event. stage_of p plan event.site ≡ 1) (λ event found. ap (stage_of p plan) (sym found.1)
+      ∙ found.2) (iteration (run_of p input fuel c) r i) (iteration_sites lone input fuel c begun i)
 
   clean_is : CleanInOneStage p r
   clean_is input fuel c begun e i =
-      four_tests (has_ended (run_of p input fuel c) r i) _ _ (nat_le (word_count p plan (iteration (run_of p input fuel c) r i) 1) 4096) (nat_le (length (iteration (run_of p input fuel c) r i)) 4096)
-      (all_seen (memory_after (run_of p input fuel c) r e) i (events_since (run_of p input fuel c) r e i) (iteration (run_of p input fuel c) r i)) (none_assumed (iteration (run_of p input fuel c) r i) (all_events input fuel c begun i))
+      four_tests (has_ended (run_of p input fuel c) r i) _ _ (nat_le (word_count p plan (iteration (run_of p input fuel c) r i) 1) 4096)
+      (nat_le (length (iteration (run_of p input fuel c) r i)) 4096)
+      (all_seen (memory_after (run_of p input fuel c) r e) i (events_since (run_of p input fuel c) r e i) (iteration (run_of p input fuel c) r i))
+      (none_assumed (iteration (run_of p input fuel c) r i) (all_events input fuel c begun i))
       (ap (λ (n : ℕ). nat_le n 4096) (one_word (iteration (run_of p input fuel c) r i) (all_events input fuel c begun i)))
 
 pub clean_in_one_stage : (p : Program) (r : ℕ) → stands_alone p r ≡ true → CleanInOneStage p r

@@ -1,9 +1,14 @@
 -- Where a run stands: before the region, in an iteration with the region's statement behind, or beyond it.
-use Rattle.dp_semantics.proofs.Names.{stored_by, taken, taken_left, behind_region, behind_one, region_number, ◌≡◌, refl, sym, ap, ◌∙◌, subst, ℕ, zero, suc, Bool, true, false, not, ◌==◌, if◌then◌else◌, List, [], ◌∷◌, ◌++◌, ℤ, length, both_ways, not-true, is_zero, Stmt, Row_of-Stmt, end_of-Stmt, more_of-Stmt, out-Stmt, Stmt-F, If, While, Region, Program, Plan, Config, Step, Stepped, followed, value_of, standing, cleared_at, step, Run, run_of, is_region, stands_at_head, places, well_nested, well_nested_in, is_free, is_free_in, and_parts, and_from, followed-append, inl, inr, cases_Bool}
+use Rattle.dp_semantics.proofs.Names.{stored_by, taken, taken_left, behind_region, behind_one, region_number, ◌≡◌, refl, sym, ap, ◌∙◌, subst, ℕ, zero, suc}
+use Rattle.dp_semantics.proofs.Names.{Bool, true, false, not, ◌==◌, if◌then◌else◌, List, [], ◌∷◌, ◌++◌, ℤ, length, both_ways, not-true, is_zero, Stmt}
+use Rattle.dp_semantics.proofs.Names.{Row_of-Stmt, end_of-Stmt, more_of-Stmt, out-Stmt, Stmt-F, If, While, Region, Program, Plan, Config, Step, Stepped}
+use Rattle.dp_semantics.proofs.Names.{followed, value_of, standing, cleared_at, step, Run, run_of, is_region, stands_at_head, places, well_nested}
+use Rattle.dp_semantics.proofs.Names.{well_nested_in, is_free, is_free_in, and_parts, and_from, followed-append, inl, inr, cases_Bool}
 use Rattle.dp_tree.proofs.InMain.{stored_by_length, cleared_length}
 use Rattle.dp_tree.proofs.Heads.{left-append}
 use Rattle.dp_semantics.proofs.Followed.{left_has}
-pub use Rattle.dp_theorem.proofs.Runs.{StopsSo, leaves_taken, first_place, is_step, run_step, step_on, step_off, run_first, PlaceAt, place_at, From, run_from, Leads, step_leads}
+pub use Rattle.dp_theorem.proofs.Runs.{StopsSo, leaves_taken, first_place, is_step, run_step, step_on, step_off, run_first, PlaceAt, place_at, From, run_from}
+pub use Rattle.dp_theorem.proofs.Runs.{Leads, step_leads}
 use Rattle.dp_tree.specs.declared.Stmt.TheVariants as tree
 use Rattle.dp_semantics.proofs.Setting.{size, Accepted, Each, each_map, all_free, free_at, free_out, all_well, Parts, followed_has, all_joins}
 
@@ -29,7 +34,8 @@ module _ (r : ℕ) where
 mutual
   -- no region stands in a well-nested statement
   free_well : (p : Program) (plan : Plan) (r : ℕ) (x : Stmt) → well_nested p plan x ≡ true → is_free r x ≡ true
-  free_well p plan r (tree.If' site cond _ a _ b) w = let both = and_parts _ _ (and_parts _ _ w).1 in and_from _ _ (free_well_in p plan r a both.0) (free_well_in p plan r b both.1)
+  free_well p plan r (tree.If' site cond _ a _ b) w =
+      let both = and_parts _ _ (and_parts _ _ w).1 in and_from _ _ (free_well_in p plan r a both.0) (free_well_in p plan r b both.1)
   free_well p plan r (tree.While' site cond _ a) w = free_well_in p plan r a (and_parts _ _ w).1
   free_well p plan r (tree.Region' q site cond _ a) w = absurd (cc)
   free_well p plan r _ w = refl
@@ -40,7 +46,8 @@ mutual
 
 free_well_all : (p : Program) (plan : Plan) (r : ℕ) (xs : List Stmt) → all_well p plan xs ≡ true → all_free r xs ≡ true
 free_well_all p plan r [] w = refl
-free_well_all p plan r (x ∷ xs) w = let both = and_parts (well_nested p plan x) (all_well p plan xs) w in and_from (is_free r x) (all_free r xs) (free_well p plan r x both.0) (free_well_all p plan r xs both.1)
+free_well_all p plan r (x ∷ xs) w = let both = and_parts (well_nested p plan x) (all_well p plan xs) w in
+    and_from (is_free r x) (all_free r xs) (free_well p plan r x both.0) (free_well_all p plan r xs both.1)
 
 pub cleared-length : (p : Program) (cells : List ℤ) (h : Stmt-F Stmt) → length (cleared_at p h cells) ≡ length cells
 cleared-length p cells (Region q site cond a) = cleared_length q p.vars cells
@@ -51,16 +58,23 @@ standing-length p [] cells = refl
 standing-length p (x ∷ xs) cells = cleared-length p cells (out-Stmt x)
 
 -- What holds of the statements to do, and is kept by each step, holds all along a run.
-module _ (p : Program) (input : List ℤ) (n : ℕ) (I : List Stmt → Type 0) (keeps : (x : Stmt) (rest : List Stmt) (z : ℤ) → I (x ∷ rest) → I (followed x rest (out-Stmt x) z)) where
+module _ (p : Program) (input : List ℤ) (n : ℕ) (I : List Stmt → Type 0)
+    (keeps : (x : Stmt) (rest : List Stmt) (z : ℤ) → I (x ∷ rest) → I (followed x rest (out-Stmt x) z)) where
   -- a configuration with n cells where it holds
   abbrev pub At : Config → Type 0
   At c = (to_do : List Stmt) × (cells : List ℤ) × (c ≡ standing p to_do cells) × I to_do × (length cells ≡ n)
 
-  next_at : (x : Stmt) (rest : List Stmt) (cells : List ℤ) → I (x ∷ rest) → length cells ≡ n → (s : Step) → Leads p input x rest cells s → (m : ℕ) (c : Config) → step p input c ≡ s → At c →
-      ((to_do : List Stmt) (cells : List ℤ) → I to_do → length cells ≡ n → Each At (run_of p input m (standing p to_do cells)).configs) → Each At (run_of p input (suc m) c).configs
+  next_at : (x : Stmt) (rest : List Stmt) (cells : List ℤ) → I (x ∷ rest) → length cells ≡ n → (s : Step) → Leads p input x rest cells s →
+      (m : ℕ) (c : Config) → step p input c ≡ s → At c →
+      ((to_do : List Stmt) (cells : List ℤ) → I to_do → length cells ≡ n → Each At (run_of p input m (standing p to_do cells)).configs) →
+      Each At (run_of p input (suc m) c).configs
   next_at x rest cells i long (Stepped event next) leads m c e here go =
-      subst (λ (run : Run). Each At run.configs) (sym (run_step p input m c (Stepped event next) e))
-      (here, subst (λ (d : Config). Each At (run_of p input m d).configs) (sym leads.1) (go (followed x rest (out-Stmt x) (value_of leads.0.value)) (stored_by p rest (out-Stmt x) leads.0.value cells) (keeps x rest (value_of leads.0.value) i) (stored_by_length p input rest (out-Stmt x) leads.0.value cells ∙ long)))
+      subst (λ (run : Run). Each At run.configs) (sym (run_step p input m c (Stepped event next) e)) (
+        here,
+        subst (λ (d : Config). Each At (run_of p input m d).configs) (sym leads.1) (go (followed x rest (out-Stmt x) (value_of leads.0.value))
+            (stored_by p rest (out-Stmt x) leads.0.value cells) (keeps x rest (value_of leads.0.value) i)
+            (stored_by_length p input rest (out-Stmt x) leads.0.value cells ∙ long)),
+      )
   next_at x rest cells i long s leads m c e here go = subst (λ (run : Run). Each At run.configs) (sym (run_step p input m c s e)) (here, tt)
 
   pub all_at : (m : ℕ) (to_do : List Stmt) (cells : List ℤ) → I to_do → length cells ≡ n → Each At (run_of p input m (standing p to_do cells)).configs
@@ -68,7 +82,8 @@ module _ (p : Program) (input : List ℤ) (n : ℕ) (I : List Stmt → Type 0) (
   all_at zero to_do cells i long = ((to_do, cells, refl, i, long), tt)
   all_at (suc m) [] cells i long = (([], cells, refl, i, long), tt)
   all_at (suc m) (x ∷ rest) cells i long =
-      next_at x rest (cleared_at p (out-Stmt x) cells) i (cleared-length p cells (out-Stmt x) ∙ long) (step p input (standing p (x ∷ rest) cells)) (step_leads p input x rest (cleared_at p (out-Stmt x) cells)) m (standing p (x ∷ rest) cells) refl
+      next_at x rest (cleared_at p (out-Stmt x) cells) i (cleared-length p cells (out-Stmt x) ∙ long) (step p input (standing p (x ∷ rest) cells))
+      (step_leads p input x rest (cleared_at p (out-Stmt x) cells)) m (standing p (x ∷ rest) cells) refl
       (x ∷ rest, cells, refl, i, long) (λ more then_cells s l. all_at m more then_cells s l)
 
 -- what is left to do: statements without the region and then its statement and what is behind it, or statements without it
@@ -87,7 +102,11 @@ module _ {p : Program} {plan : Plan} (a : Accepted p plan) where
   region_left = ap (λ (h : Stmt-F Stmt). behind_one (region_number h) a.tail (behind_region a.tail)) a.is
 
   at_region : (z : ℤ) → Spot r behind (followed a.statement a.tail (out-Stmt a.statement) z)
-  at_region z = elim (cases_Bool (is_zero z)) [ inl q ↦ rw (a.is, q) (beyond a.tail_free) | inr q ↦ rw (a.is, q) (before_it a.body refl (free_well_all p plan r a.body a.well)) ]
+  at_region z = elim (cases_Bool (is_zero z)) [
+    | inl q ↦ rw (a.is, q) (beyond a.tail_free)
+    | inr q ↦
+        rw (a.is, q) (before_it a.body refl (free_well_all p plan r a.body a.well))
+  ]
 
   -- a break leaves the region, or another one before it
   spot_left : (inner : List Stmt) → all_free r inner ≡ true → Spot r behind (behind_region (inner ++ behind))
@@ -103,7 +122,8 @@ module _ {p : Program} {plan : Plan} (a : Accepted p plan) where
       let here : y ≡ x = cc in
       let more : inner ++ behind ≡ rest = cc in
       rw (← here, ← more) (elim (cases_Bool (taken (out-Stmt y) z)) [
-        | inl t ↦ subst (Spot r behind) (sym (taken_left y (inner ++ behind) (out-Stmt y) z t)) (spot_left inner (and_parts (is_free r y) (all_free r inner) w).1)
+        | inl t ↦ subst (Spot r behind) (sym (taken_left y (inner ++ behind) (out-Stmt y) z t))
+            (spot_left inner (and_parts (is_free r y) (all_free r inner) w).1)
         | inr t ↦ before_it (followed y inner (out-Stmt y) z) (followed-append y inner behind (out-Stmt y) z t) (free_next r y inner z w)
       ])
 
@@ -112,10 +132,12 @@ module _ {p : Program} {plan : Plan} (a : Accepted p plan) where
   Spotted input c = At p input (size p) (Spot r behind) spot_next c
 
   -- where the region's condition stands at the head, its statement does
-  pub at_start : (input : List ℤ) (c : Config) → Spotted input c → stands_at_head r c ≡ true → (cells : List ℤ) × (c ≡ standing p behind cells) × (length cells ≡ size p)
+  pub at_start : (input : List ℤ) (c : Config) → Spotted input c → stands_at_head r c ≡ true → (cells : List ℤ) × (c ≡ standing p behind cells)
+      × (length cells ≡ size p)
   at_start input c (to_do, cells, is, spot, long) head = by to_do spot is (sym (ap (stands_at_head r) is) ∙ head)
     where
-      by : (to_do : List Stmt) → Spot r behind to_do → c ≡ standing p to_do cells → stands_at_head r (standing p to_do cells) ≡ true → (cells : List ℤ) × (c ≡ standing p behind cells) × (length cells ≡ size p)
+      by : (to_do : List Stmt) → Spot r behind to_do → c ≡ standing p to_do cells → stands_at_head r (standing p to_do cells) ≡ true → (cells : List ℤ)
+          × (c ≡ standing p behind cells) × (length cells ≡ size p)
       by [] spot is head = absurd (cc)
       by (x ∷ rest) (beyond w) is head = absurd (both_ways (is_region r (out-Stmt x)) (not_at_head r x (and_parts (is_free r x) (all_free r rest) w).0) head)
       by (x ∷ rest) (before_it [] e w) is head = (cells, is ∙ ap (λ (ys : List Stmt). standing p ys cells) e, long)
@@ -126,14 +148,17 @@ module _ {p : Program} {plan : Plan} (a : Accepted p plan) where
 -- Beyond the region there is no start.
 no_places : (r n : ℕ) (cs : List Config) → Each (λ c. stands_at_head r c ≡ false) cs → places (stands_at_head r) n cs ≡ []
 no_places r n [] h = refl
-no_places r n (c ∷ cs) h = ap (λ (b : Bool). if b then n ∷ places (stands_at_head r) (suc n) cs else places (stands_at_head r) (suc n) cs) h.0 ∙ no_places r (suc n) cs h.1
+no_places r n (c ∷ cs) h = ap (λ (b : Bool). if b then n ∷ places (stands_at_head r) (suc n) cs else places (stands_at_head r) (suc n) cs) h.0
+    ∙ no_places r (suc n) cs h.1
 
 free_off : (p : Program) (r : ℕ) (to_do : List Stmt) (cells : List ℤ) → all_free r to_do ≡ true → stands_at_head r (standing p to_do cells) ≡ false
 free_off p r [] cells w = refl
 free_off p r (x ∷ rest) cells w = not_at_head r x (and_parts (is_free r x) (all_free r rest) w).0
 
-pub never : (p : Program) (input : List ℤ) (r m n : ℕ) (to_do : List Stmt) (cells : List ℤ) → all_free r to_do ≡ true → places (stands_at_head r) n (run_of p input m (standing p to_do cells)).configs ≡ []
+pub never : (p : Program) (input : List ℤ) (r m n : ℕ) (to_do : List Stmt) (cells : List ℤ) → all_free r to_do ≡ true →
+    places (stands_at_head r) n (run_of p input m (standing p to_do cells)).configs ≡ []
 never p input r m n to_do cells w =
     no_places r n (run_of p input m (standing p to_do cells)).configs
-    (each_map (At p input (length cells) (λ xs. all_free r xs ≡ true) (free_next r)) (λ c. stands_at_head r c ≡ false) (λ c at. ap (stands_at_head r) at.2 ∙ free_off p r at.0 at.1 at.3)
+    (each_map (At p input (length cells) (λ xs. all_free r xs ≡ true) (free_next r)) (λ c. stands_at_head r c ≡ false) (λ c at. ap (stands_at_head r) at.2
+    ∙ free_off p r at.0 at.1 at.3)
     (run_of p input m (standing p to_do cells)).configs (all_at p input (length cells) (λ xs. all_free r xs ≡ true) (free_next r) m to_do cells w refl))

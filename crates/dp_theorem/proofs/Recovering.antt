@@ -1,5 +1,7 @@
 -- The list of iterations that are executed again: ascending, and no other ones.
-use Rattle.dp_semantics.proofs.Names.{◌≡◌, ◌⊎◌, inl, inr, refl, sym, ap, ◌∙◌, ℕ, zero, suc, ◌+◌, ◌<◌, ◌≤◌, Bool, true, false, if◌then◌else◌, List, ◌∷◌, length, slice_index_or, AllPairs, Contains, filter, arith, cases_eq, AllPairs-cons, AllPairs-filter, Program, Plan, begun_count, numbers_from, RecoversInOrder}
+use Rattle.dp_semantics.proofs.Names.{◌≡◌, ◌⊎◌, inl, inr, refl, sym, ap, ◌∙◌, ℕ, zero, suc, ◌+◌, ◌<◌, ◌≤◌, Bool, true, false, if◌then◌else◌, List, ◌∷◌, length}
+use Rattle.dp_semantics.proofs.Names.{slice_index_or, AllPairs, Contains, filter, arith, cases_eq, AllPairs-cons, AllPairs-filter, Program, Plan, begun_count}
+use Rattle.dp_semantics.proofs.Names.{numbers_from, RecoversInOrder}
 use Rattle.dp_semantics.specs.Recovery.{is_recovered_with}
 
 contains_head : (x y : ℕ) (xs : List ℕ) → x ≡ y → Contains (x ∷ xs) y
@@ -21,7 +23,8 @@ module _ (test : ℕ → Bool) where
   only_passing zero k i (j, low, is) = absurd (omega (arith, low))
   only_passing (suc n) k i c = by (test k) refl c (λ q. let r = only_passing n (k + 1) i q in (omega (arith, r.0), r.1))
     where
-      by : (b : Bool) → test k ≡ b → Contains (if b then k ∷ passing (k + 1) n else passing (k + 1) n) i → (Contains (passing (k + 1) n) i → (i < k + suc n) × (test i ≡ true)) → (i < k + suc n) × (test i ≡ true)
+      by : (b : Bool) → test k ≡ b → Contains (if b then k ∷ passing (k + 1) n else passing (k + 1) n) i → (Contains (passing (k + 1) n) i → (i < k + suc n)
+          × (test i ≡ true)) → (i < k + suc n) × (test i ≡ true)
       by false t c later = later c
       by true t c later = here (contains_cases k i (passing (k + 1) n) c)
         where
@@ -33,7 +36,8 @@ module _ (test : ℕ → Bool) where
   each_passing zero k i low high t = absurd (omega (arith, low, high))
   each_passing (suc n) k i low high t = by (test k) refl (cases_eq k i) (λ l. each_passing n (k + 1) i (omega (arith, l)) (omega (arith, high)) t)
     where
-      by : (b : Bool) → test k ≡ b → (k ≡ i) ⊎ (k ≡ i → ⊥) → (suc k ≤ i → Contains (passing (k + 1) n) i) → Contains (if b then k ∷ passing (k + 1) n else passing (k + 1) n) i
+      by : (b : Bool) → test k ≡ b → (k ≡ i) ⊎ (k ≡ i → ⊥) → (suc k ≤ i → Contains (passing (k + 1) n) i) →
+          Contains (if b then k ∷ passing (k + 1) n else passing (k + 1) n) i
       by true u (inl e) later = contains_head k i (passing (k + 1) n) e
       by true u (inr e) later = contains_tail k i (passing (k + 1) n) (later (omega (arith, low, e)))
       by false u (inl e) later = absurd (cc (sym u ∙ ap test e ∙ t))
@@ -50,7 +54,8 @@ counted (suc n) k = AllPairs-cons (λ i j. i < j) k (numbers_from (k + 1) n) (λ
 
 pub recovers : (p : Program) (plan : Plan) → RecoversInOrder p plan
 recovers p plan begins run = record {
-  ascends = AllPairs-filter (λ i j. i < j) (is_recovered_with begins p plan run) (numbers_from 0 (begun_count run plan.region)) (counted (begun_count run plan.region) 0);
+  ascends = AllPairs-filter (λ i j. i < j) (is_recovered_with begins p plan run) (numbers_from 0 (begun_count run plan.region))
+      (counted (begun_count run plan.region) 0);
   only = λ i c. let r = only_passing (is_recovered_with begins p plan run) (begun_count run plan.region) 0 i c in (omega (arith, r.0), r.1);
   each = λ i low t. each_passing (is_recovered_with begins p plan run) (begun_count run plan.region) 0 i (omega arith) (omega (arith, low)) t;
 }

@@ -1,10 +1,16 @@
 -- Each event of an iteration is at one of the region's sites, where the region stands alone.
-use Rattle.dp_semantics.proofs.Names.{leaves, last_events, upto_leaving, taken, Region, is_region, stored_by, after_effect, ◌+◌, ◌≡◌, refl, sym, ap, ◌∙◌, subst, ℕ, zero, suc, ◌-◌, Bool, true, false, if◌then◌else◌, List, [], ◌∷◌, ◌++◌, ℤ, length, take, drop, Option, Some, None, slice_get, arith, drop-append_seam, Program, Stmt, out-Stmt, Stmt-F, Effect, Decided, Event, Config, Step, Finished, Faulted, Stepped, Run, run_of, run_by, extended, StandsInMain, inl, inr, is_zero, eval, evaluated, followed, choose, site_of, value_of, stored, standing, step, cleared_at, stands_at_head, places, start, iteration, decided_zero, Access, accesses, events_from, stop_from, followed-append}
+use Rattle.dp_semantics.proofs.Names.{leaves, last_events, upto_leaving, taken, Region, is_region, stored_by, after_effect, ◌+◌, ◌≡◌, refl, sym, ap, ◌∙◌, subst}
+use Rattle.dp_semantics.proofs.Names.{ℕ, zero, suc, ◌-◌, Bool, true, false, if◌then◌else◌, List, [], ◌∷◌, ◌++◌, ℤ, length, take, drop, Option, Some, None}
+use Rattle.dp_semantics.proofs.Names.{slice_get, arith, drop-append_seam, Program, Stmt, out-Stmt, Stmt-F, Effect, Decided, Event, Config, Step, Finished}
+use Rattle.dp_semantics.proofs.Names.{Faulted, Stepped, Run, run_of, run_by, extended, StandsInMain, inl, inr, is_zero, eval, evaluated, followed, choose}
+use Rattle.dp_semantics.proofs.Names.{site_of, value_of, stored, standing, step, cleared_at, stands_at_head, places, start, iteration, decided_zero, Access}
+use Rattle.dp_semantics.proofs.Names.{accesses, events_from, stop_from, followed-append}
 use Rattle.dp_semantics.proofs.Setting.{size, Each, each_split, accesses_all}
 use Rattle.dp_theorem.proofs.Begun.{reach}
 use Rattle.dp_theorem.proofs.Placed.{all_at, never, PlaceAt, place_at, run_step, Leads, step_leads, From, run_from}
 use Rattle.dp_theorem.proofs.Turns.{decided_is}
-use Rattle.dp_theorem.proofs.Alone.{Lone, AtSite, Around, ahead, beyond, upto, behind, Sites, each_take, one_upto, region, body_sites, followed_sites, around_next, Spotted, within, site_of_step, till}
+use Rattle.dp_theorem.proofs.Alone.{Lone, AtSite, Around, ahead, beyond, upto, behind, Sites, each_take, one_upto, region, body_sites, followed_sites}
+use Rattle.dp_theorem.proofs.Alone.{around_next, Spotted, within, site_of_step, till}
 
 -- a region is no break
 region_stays : (r : ℕ) (h : Stmt-F Stmt) (z : ℤ) → is_region r h ≡ true → taken h z ≡ false
@@ -16,7 +22,8 @@ upto_front : (es : List Event) → take (length (upto_leaving es)) es ≡ upto_l
 upto_front [] = refl
 upto_front (event ∷ es) = by (leaves event.effect) (upto_front es)
   where
-    by : (b : Bool) → take (length (upto_leaving es)) es ≡ upto_leaving es → take (length (event ∷ (if b then [] else upto_leaving es))) (event ∷ es) ≡ event ∷ (if b then [] else upto_leaving es)
+    by : (b : Bool) → take (length (upto_leaving es)) es ≡ upto_leaving es → take (length (event ∷ (if b then [] else upto_leaving es))) (event ∷ es) ≡ event
+        ∷ (if b then [] else upto_leaving es)
     by true go = refl
     by false go = ap (λ (fs : List Event). event ∷ fs) go
 
@@ -47,7 +54,8 @@ module _ {p : Program} {r : ℕ} {Q : Access → Type 0} (l : Lone p r Q) (input
         (all_at p input (size p) (Around Q r (behind l input)) (around_next l input) fuel (begun.inner ++ begun.behind) begun.cells around begun.cells_are)
 
     here : (inner : List Stmt) × (cells : List ℤ) × (q.found ≡ standing p (inner ++ (behind l input)) cells) × Each Q (accesses_all inner)
-    here = within l input q.found (each_split (Spotted l input) q.front (q.found ∷ q.behind) (subst (λ (cs : List Config). Each (Spotted l input) cs) q.is spotted)).1.0 q.passes
+    here = within l input q.found (each_split (Spotted l input) q.front (q.found ∷ q.behind) (subst (λ (cs : List Config). Each (Spotted l input) cs) q.is
+        spotted)).1.0 q.passes
 
     -- where the next start is
     abbrev next : Option ℕ
@@ -84,76 +92,107 @@ module _ {p : Program} {r : ℕ} {Q : Access → Type 0} (l : Lone p r Q) (input
       cut_is : next ≡ None → cut ≡ length (last_events (event ∷ (run_of p input m onward).trace))
       cut_is none =
           let place : k ≡ length f.before = omega (arith, q.place_is, f.length_is) in
-          let behind_it : drop k run.trace ≡ event ∷ (run_of p input m onward).trace = ap (drop k) f.trace_is ∙ ap (λ (n : ℕ). drop n (f.before ++ (run_of p input f.left q.found).trace)) place ∙ drop-append_seam f.before (run_of p input f.left q.found).trace ∙ trace_is in
-          let stop : stop_from run k next ≡ k + length (last_events (event ∷ (run_of p input m onward).trace)) = ap (stop_from run k) none ∙ ap (λ (es : List Event). k + length (last_events es)) behind_it in
+          let behind_it : drop k run.trace ≡ event ∷ (run_of p input m onward).trace = ap (drop k) f.trace_is
+          ∙ ap (λ (n : ℕ). drop n (f.before ++ (run_of p input f.left q.found).trace)) place
+          ∙ drop-append_seam f.before (run_of p input f.left q.found).trace ∙ trace_is in
+          let stop : stop_from run k next ≡ k + length (last_events (event ∷ (run_of p input m onward).trace)) = ap (stop_from run k) none
+          ∙ ap (λ (es : List Event). k + length (last_events es)) behind_it in
           omega (arith, stop)
 
-      none_sites : next ≡ None → (Sites l input) (last_events (event ∷ (run_of p input m onward).trace)) → (Sites l input) (take cut (event ∷ (run_of p input m onward).trace))
-      none_sites none h = subst (Sites l input) (sym (ap (λ (n : ℕ). take n (event ∷ (run_of p input m onward).trace)) (cut_is none) ∙ last_front (event ∷ (run_of p input m onward).trace))) h
+      none_sites : next ≡ None → (Sites l input) (last_events (event ∷ (run_of p input m onward).trace)) →
+          (Sites l input) (take cut (event ∷ (run_of p input m onward).trace))
+      none_sites none h = subst (Sites l input) (sym (ap (λ (n : ℕ). take n (event ∷ (run_of p input m onward).trace)) (cut_is none)
+          ∙ last_front (event ∷ (run_of p input m onward).trace))) h
 
-      last_sites : (b : Bool) → decided_zero (Some event) ≡ b → AtSite Q event → (Sites l input) (upto_leaving (run_of p input m onward).trace) → (Sites l input) (last_events (event ∷ (run_of p input m onward).trace))
-      last_sites true told at_site h = subst (λ (u : Bool). (Sites l input) (if u then take 1 (event ∷ (run_of p input m onward).trace) else upto_leaving (event ∷ (run_of p input m onward).trace))) (sym told) (at_site, tt)
+      last_sites : (b : Bool) → decided_zero (Some event) ≡ b → AtSite Q event → (Sites l input) (upto_leaving (run_of p input m onward).trace) →
+          (Sites l input) (last_events (event ∷ (run_of p input m onward).trace))
+      last_sites true told at_site h =
+          subst (λ (u : Bool). (Sites l input) (if u then take 1 (event ∷ (run_of p input m onward).trace)
+          else upto_leaving (event ∷ (run_of p input m onward).trace))) (sym told) (at_site, tt)
       last_sites false told at_site h =
-          subst (λ (u : Bool). (Sites l input) (if u then take 1 (event ∷ (run_of p input m onward).trace) else upto_leaving (event ∷ (run_of p input m onward).trace))) (sym told) (at_site, by (leaves event.effect))
+          subst (λ (u : Bool). (Sites l input) (if u then take 1 (event ∷ (run_of p input m onward).trace)
+          else upto_leaving (event ∷ (run_of p input m onward).trace))) (sym told) (at_site, by (leaves event.effect))
         where
           by : (b : Bool) → (Sites l input) (if b then [] else upto_leaving (run_of p input m onward).trace)
           by true = tt
           by false = h
 
       -- up to the next start
-      up_to_next : AtSite Q event → (Sites l input) (upto (suc k) (slice_get (places (stands_at_head r) (suc k) (run_of p input m onward).configs) 0) (run_of p input m onward).trace) → (Sites l input) (take cut (run_of p input f.left q.found).trace)
-      up_to_next here later = subst (λ (es : List Event). (Sites l input) (take cut es)) (sym trace_is) (by next refl (subst (λ (o : Option ℕ). (Sites l input) (upto (suc k) o (run_of p input m onward).trace)) (sym next_is) later))
+      up_to_next : AtSite Q event → (Sites l input) (upto (suc k) (slice_get (places (stands_at_head r) (suc k) (run_of p input m onward).configs) 0)
+          (run_of p input m onward).trace) → (Sites l input) (take cut (run_of p input f.left q.found).trace)
+      up_to_next here later = subst (λ (es : List Event). (Sites l input) (take cut es)) (sym trace_is)
+          (by next refl (subst (λ (o : Option ℕ). (Sites l input) (upto (suc k) o (run_of p input m onward).trace)) (sym next_is) later))
         where
-          by : (o : Option ℕ) → next ≡ o → (Sites l input) (upto (suc k) next (run_of p input m onward).trace) → (Sites l input) (take cut (event ∷ (run_of p input m onward).trace))
-          by None e h = none_sites e (last_sites (decided_zero (Some event)) refl here (subst (λ (o : Option ℕ). (Sites l input) (upto (suc k) o (run_of p input m onward).trace)) e h))
+          by : (o : Option ℕ) → next ≡ o → (Sites l input) (upto (suc k) next (run_of p input m onward).trace) →
+              (Sites l input) (take cut (event ∷ (run_of p input m onward).trace))
+          by None e h = none_sites e (last_sites (decided_zero (Some event)) refl here
+              (subst (λ (o : Option ℕ). (Sites l input) (upto (suc k) o (run_of p input m onward).trace)) e h))
           by (Some n) e h = subst (λ (o : Option ℕ). (Sites l input) (take (stop_from run k o - k) (event ∷ (run_of p input m onward).trace))) (sym e)
-              (one_upto l input k (Some n) event (run_of p input m onward).trace here (subst (λ (o : Option ℕ). (Sites l input) (upto (suc k) o (run_of p input m onward).trace)) e h))
+              (one_upto l input k (Some n) event (run_of p input m onward).trace here
+              (subst (λ (o : Option ℕ). (Sites l input) (upto (suc k) o (run_of p input m onward).trace)) e h))
 
       -- a condition of 0 with no start (behind l input) it
       up_to_closing : AtSite Q event → next ≡ None → decided_zero (Some event) ≡ true → (Sites l input) (take cut (run_of p input f.left q.found).trace)
       up_to_closing at_site none is_closed =
           subst (λ (es : List Event). (Sites l input) (take cut es)) (sym trace_is)
-          (none_sites none (subst (λ (u : Bool). (Sites l input) (if u then take 1 (event ∷ (run_of p input m onward).trace) else upto_leaving (event ∷ (run_of p input m onward).trace))) (sym is_closed) (at_site, tt)))
+          (none_sites none (subst (λ (u : Bool). (Sites l input) (if u then take 1 (event ∷ (run_of p input m onward).trace)
+          else upto_leaving (event ∷ (run_of p input m onward).trace))) (sym is_closed) (at_site, tt)))
 
-      by_inner : (inner : List Stmt) (cells : List ℤ) → q.found ≡ standing p (inner ++ (behind l input)) cells → Each Q (accesses_all inner) → (Sites l input) (take cut (run_of p input f.left q.found).trace)
+      by_inner : (inner : List Stmt) (cells : List ℤ) → q.found ≡ standing p (inner ++ (behind l input)) cells → Each Q (accesses_all inner) →
+          (Sites l input) (take cut (run_of p input f.left q.found).trace)
       by_inner (x ∷ inner) cells is sites =
           let here_cells : List ℤ = cleared_at p (out-Stmt x) cells in
-          let leads : Leads p input x (inner ++ (behind l input)) here_cells (Stepped event onward) = subst (Leads p input x (inner ++ (behind l input)) here_cells) (sym (ap (step p input) is) ∙ s) (step_leads p input x (inner ++ (behind l input)) here_cells) in
+          let leads : Leads p input x (inner ++ (behind l input)) here_cells (Stepped event onward) = subst
+          (Leads p input x (inner ++ (behind l input)) here_cells) (sym (ap (step p input) is) ∙ s)
+          (step_leads p input x (inner ++ (behind l input)) here_cells) in
           let here_region : is_region r (out-Stmt x) ≡ true = sym (ap (stands_at_head r) is) ∙ q.passes in
           let kept_cells = stored_by p (inner ++ (behind l input)) (out-Stmt x) leads.0.value here_cells in
-          let there : onward ≡ standing p (followed x inner (out-Stmt x) (value_of leads.0.value) ++ (behind l input)) (stored_by p (inner ++ (behind l input)) (out-Stmt x) leads.0.value here_cells) =
-          leads.1 ∙ ap (λ (ys : List Stmt). standing p ys (stored_by p (inner ++ (behind l input)) (out-Stmt x) leads.0.value here_cells)) (followed-append x inner (behind l input) (out-Stmt x) (value_of leads.0.value) (region_stays r (out-Stmt x) (value_of leads.0.value) here_region)) in
-          up_to_next (site_of_step l input x (inner ++ (behind l input)) inner here_cells event onward leads (each_split Q (accesses x) (accesses_all inner) sites).0)
-          (subst (λ (d : Config). (Sites l input) (upto (suc k) (slice_get (places (stands_at_head r) (suc k) (run_of p input m d).configs) 0) (run_of p input m d).trace)) (sym there)
-          (till l input m (suc k) (followed x inner (out-Stmt x) (value_of leads.0.value)) (stored_by p (inner ++ (behind l input)) (out-Stmt x) leads.0.value here_cells) (followed_sites l input x inner (value_of leads.0.value) sites)))
+          let there : onward ≡ standing p (followed x inner (out-Stmt x) (value_of leads.0.value) ++ (behind l input))
+          (stored_by p (inner ++ (behind l input)) (out-Stmt x) leads.0.value here_cells) =
+          leads.1 ∙ ap (λ (ys : List Stmt). standing p ys (stored_by p (inner ++ (behind l input)) (out-Stmt x) leads.0.value here_cells))
+          (followed-append x inner (behind l input) (out-Stmt x) (value_of leads.0.value) (region_stays r (out-Stmt x) (value_of leads.0.value) here_region)) in
+          up_to_next (site_of_step l input x (inner ++ (behind l input)) inner here_cells event onward leads
+          (each_split Q (accesses x) (accesses_all inner) sites).0)
+          (subst (λ (d : Config). (Sites l input) (upto (suc k) (slice_get (places (stands_at_head r) (suc k) (run_of p input m d).configs) 0)
+          (run_of p input m d).trace)) (sym there)
+          (till l input m (suc k) (followed x inner (out-Stmt x) (value_of leads.0.value)) (stored_by p (inner ++ (behind l input)) (out-Stmt x) leads.0.value
+          here_cells) (followed_sites l input x inner (value_of leads.0.value) sites)))
       by_inner [] cells is sites =
           let here_cells : List ℤ = cleared_at p (out-Stmt l.statement) cells in
-          let leads : Leads p input l.statement l.tail here_cells (Stepped event onward) = subst (Leads p input l.statement l.tail here_cells) (sym (ap (step p input) is) ∙ s) (step_leads p input l.statement l.tail here_cells) in
+          let leads : Leads p input l.statement l.tail here_cells (Stepped event onward) = subst (Leads p input l.statement l.tail here_cells)
+          (sym (ap (step p input) is) ∙ s) (step_leads p input l.statement l.tail here_cells) in
           let d = decided_is (eval p input here_cells (region l input).cond) leads.0 (sym (ap (evaluated p input here_cells) (region l input).is) ∙ leads.4) in
           let there : onward ≡ standing p (choose d.0 ((region l input).body ++ (behind l input)) l.tail) (stored leads.0.value here_cells) =
           leads.1 ∙ ap (λ (h : Stmt-F Stmt). after_effect p l.statement l.tail here_cells h leads.0.value) (region l input).is
           ∙ ap (λ (g : Effect). standing p (choose (value_of g) ((region l input).body ++ (behind l input)) l.tail) (stored leads.0.value here_cells)) d.1 in
           at_region here_cells leads d.0 d.1 there (is_zero d.0) refl
         where
-          at_region : (here_cells : List ℤ) (leads : Leads p input l.statement l.tail here_cells (Stepped event onward)) (z : ℤ) → leads.0.value ≡ Decided z → onward ≡ standing p (choose z ((region l input).body ++ (behind l input)) l.tail) (stored leads.0.value here_cells) →
+          at_region : (here_cells : List ℤ) (leads : Leads p input l.statement l.tail here_cells (Stepped event onward)) (z : ℤ) → leads.0.value ≡ Decided z →
+              onward ≡ standing p (choose z ((region l input).body ++ (behind l input)) l.tail) (stored leads.0.value here_cells) →
               (b : Bool) → is_zero z ≡ b → (Sites l input) (take cut (run_of p input f.left q.found).trace)
           at_region here_cells leads z d there true t =
               up_to_closing (site_of_step l input l.statement l.tail [] here_cells event onward leads l.sites)
-              (next_is ∙ ap (λ (c : Config). slice_get (places (stands_at_head r) (suc k) (run_of p input m c).configs) 0) (there ∙ ap (λ (b : Bool). standing p (if b then l.tail else (region l input).body ++ (behind l input)) (stored leads.0.value here_cells)) t)
+              (next_is ∙ ap (λ (c : Config). slice_get (places (stands_at_head r) (suc k) (run_of p input m c).configs) 0) (there
+              ∙ ap (λ (b : Bool). standing p (if b then l.tail else (region l input).body ++ (behind l input)) (stored leads.0.value here_cells)) t)
               ∙ ap (λ (ks : List ℕ). slice_get ks 0) (never p input r m (suc k) l.tail (stored leads.0.value here_cells) l.tail_free))
-              (ap (λ (u : Event). decided_zero (Some u)) leads.2 ∙ ap (λ (g : Effect). decided_zero (Some (record { site = (site_of (out-Stmt l.statement)).0; loads = leads.0.loads; effect = g }))) d ∙ t)
+              (ap (λ (u : Event). decided_zero (Some u)) leads.2
+              ∙ ap (λ (g : Effect). decided_zero (Some (record { site = (site_of (out-Stmt l.statement)).0; loads = leads.0.loads; effect = g }))) d ∙ t)
           at_region here_cells leads z d there false t =
               up_to_next (site_of_step l input l.statement l.tail [] here_cells event onward leads l.sites)
-              (subst (λ (c : Config). (Sites l input) (upto (suc k) (slice_get (places (stands_at_head r) (suc k) (run_of p input m c).configs) 0) (run_of p input m c).trace))
-              (sym (there ∙ ap (λ (b : Bool). standing p (if b then l.tail else (region l input).body ++ (behind l input)) (stored leads.0.value here_cells)) t))
+              (subst (λ (c : Config). (Sites l input) (upto (suc k) (slice_get (places (stands_at_head r) (suc k) (run_of p input m c).configs) 0)
+              (run_of p input m c).trace))
+              (sym (there ∙ ap (λ (b : Bool). standing p (if b then l.tail else (region l input).body ++ (behind l input))
+              (stored leads.0.value here_cells)) t))
               (till l input m (suc k) (region l input).body (stored leads.0.value here_cells) (body_sites l input)))
 
     no_run : (c : Config) → (Sites l input) (take cut (run_of p input 0 c).trace)
     unfolding run_of
     no_run c = each_take l input cut [] tt
 
-    cut_off : (m : ℕ) (s : Step) → f.left ≡ suc m → step p input q.found ≡ s → (run_by (run_of p input m) (suc m) q.found s).trace ≡ [] → (Sites l input) (take cut (run_of p input f.left q.found).trace)
-    cut_off m s left e none = subst (λ (es : List Event). (Sites l input) (take cut es)) (sym (ap (λ (n : ℕ). (run_of p input n q.found).trace) left ∙ ap (λ (run : Run). run.trace) (run_step p input m q.found s e) ∙ none)) (each_take l input cut [] tt)
+    cut_off : (m : ℕ) (s : Step) → f.left ≡ suc m → step p input q.found ≡ s → (run_by (run_of p input m) (suc m) q.found s).trace ≡ [] →
+        (Sites l input) (take cut (run_of p input f.left q.found).trace)
+    cut_off m s left e none = subst (λ (es : List Event). (Sites l input) (take cut es)) (sym (ap (λ (n : ℕ). (run_of p input n q.found).trace) left
+        ∙ ap (λ (run : Run). run.trace) (run_step p input m q.found s e) ∙ none)) (each_take l input cut [] tt)
 
     by_step : (m : ℕ) → f.left ≡ suc m → (s : Step) → step p input q.found ≡ s → (Sites l input) (take cut (run_of p input f.left q.found).trace)
     by_step m left Finished s = cut_off m Finished left s refl
@@ -168,9 +207,11 @@ module _ {p : Program} {r : ℕ} {Q : Access → Type 0} (l : Lone p r Q) (input
         by (suc m) e = by_step m e (step p input q.found) refl
 
 -- Each event of an iteration is at one of the region's sites.
-pub iteration_sites : {p : Program} {r : ℕ} {Q : Access → Type 0} → Lone p r Q → (input : List ℤ) (fuel : ℕ) (c : Config) → StandsInMain p c → (i : ℕ) → Each (AtSite Q) (iteration (run_of p input fuel c) r i)
+pub iteration_sites : {p : Program} {r : ℕ} {Q : Access → Type 0} → Lone p r Q → (input : List ℤ) (fuel : ℕ) (c : Config) → StandsInMain p c → (i : ℕ) →
+    Each (AtSite Q) (iteration (run_of p input fuel c) r i)
 iteration_sites {p} {r} {Q} l input fuel c begun i = by (start (run_of p input fuel c) r i) refl
   where
     by : (o : Option ℕ) → start (run_of p input fuel c) r i ≡ o → Each (AtSite Q) (iteration (run_of p input fuel c) r i)
-    by None e = subst (λ (es : List Event). Each (AtSite Q) es) (sym (ap (λ (o : Option ℕ). events_from (run_of p input fuel c) o (start (run_of p input fuel c) r (suc i))) e)) tt
+    by None e = subst (λ (es : List Event). Each (AtSite Q) es)
+        (sym (ap (λ (o : Option ℕ). events_from (run_of p input fuel c) o (start (run_of p input fuel c) r (suc i))) e)) tt
     by (Some k) e = sites_here l input i k fuel c begun e

@@ -1,5 +1,7 @@
 -- Where no region stands, region r doesn't, and regions stand at the top of `main` alone.
-use Rattle.dp_semantics.proofs.Names.{opened_statement, ◌≡◌, refl, sym, ap, ◌∙◌, ℕ, ◌==◌, Bool, true, false, not, ◌&&◌, ◌||◌, List, [], ◌∷◌, list_all, SiteId, Expr, Stmt, Row_of-Stmt, end_of-Stmt, more_of-Stmt, hidden-the_row-Stmt-0, is_free, is_free_in, is_region, region_alone, and_parts, and_from}
+use Rattle.dp_semantics.proofs.Names.{opened_statement, ◌≡◌, refl, sym, ap, ◌∙◌, ℕ, ◌==◌, Bool, true, false, not, ◌&&◌, ◌||◌, List, [], ◌∷◌, list_all, SiteId}
+use Rattle.dp_semantics.proofs.Names.{Expr, Stmt, Row_of-Stmt, end_of-Stmt, more_of-Stmt, hidden-the_row-Stmt-0, is_free, is_free_in, is_region, region_alone}
+use Rattle.dp_semantics.proofs.Names.{and_parts, and_from}
 use Rattle.dp_tree.specs.declared.Stmt.TheVariants as tree
 use Rattle.dp_tree.specs.Numbering.{is_plain, is_plain_in, is_inner, is_inner_in, next_region, regions_in_order, top_fits}
 use Rattle.dp_plan.proofs.TopStatements.{Top, marked, unmarked, top}
@@ -23,9 +25,11 @@ inner_free r _ w = refl
 
 pub inner_free_in : {n : _} (r : ℕ) (row : Row_of-Stmt n) → is_inner_in row ≡ true → is_free_in r row ≡ true
 inner_free_in r end_of-Stmt w = refl
-inner_free_in r (more_of-Stmt x rest) w = let both = and_parts (is_inner x) (is_inner_in rest) w in and_from _ _ (inner_free r x both.0) (inner_free_in r rest both.1)
+inner_free_in r (more_of-Stmt x rest) w = let both = and_parts (is_inner x) (is_inner_in rest) w in
+    and_from _ _ (inner_free r x both.0) (inner_free_in r rest both.1)
 
-free_made : (r q : ℕ) (site : SiteId) (cond : Expr) (body : List Stmt) → is_free r (tree.Region q site cond body) ≡ (not (q == r) && is_free_in r (hidden-the_row-Stmt-0 body))
+free_made : (r q : ℕ) (site : SiteId) (cond : Expr) (body : List Stmt) →
+    is_free r (tree.Region q site cond body) ≡ (not (q == r) && is_free_in r (hidden-the_row-Stmt-0 body))
 unfolding opened_statement
 free_made r q site cond body = refl
 
@@ -33,7 +37,8 @@ top_alone : (r k : ℕ) (x : Stmt) → Top x → top_fits k x ≡ true → regio
 top_alone r k x (unmarked none off next fits) e = ap (λ (b : Bool). b || is_free r x) (none r) ∙ plain_free r x (sym (fits k) ∙ e)
 top_alone r k x (marked q site cond body is made on next fits) e =
     ap (λ (b : Bool). b || is_free r x) (ap (is_region r) is) ∙ ap (λ (b : Bool). (q == r) || b) (ap (is_free r) made ∙ free_made r q site cond body)
-    ∙ by (q == r) (is_free_in r (hidden-the_row-Stmt-0 body)) (inner_free_in r (hidden-the_row-Stmt-0 body) (and_parts (q == k) (is_inner_in (hidden-the_row-Stmt-0 body)) (sym (fits k) ∙ e)).1)
+    ∙ by (q == r) (is_free_in r (hidden-the_row-Stmt-0 body))
+    (inner_free_in r (hidden-the_row-Stmt-0 body) (and_parts (q == k) (is_inner_in (hidden-the_row-Stmt-0 body)) (sym (fits k) ∙ e)).1)
   where
     by : (b c : Bool) → c ≡ true → (b || (not b && c)) ≡ true
     by true c f = refl

@@ -1,5 +1,8 @@
 -- Runs step by step: from a configuration of a run the rest of it is a run of its own.
-use Rattle.dp_semantics.proofs.Names.{after_effect, leaves, taken, runs_by_step, ◌≡◌, ◌⊎◌, refl, sym, ap, ◌∙◌, ℕ, zero, suc, ◌+◌, Bool, true, false, List, [], ◌∷◌, ◌++◌, ℤ, length, Some, slice_get, Ok, Err, arith, FaultKind, Stmt, out-Stmt, Stmt-F, Call, Program, WithLoads, Evaluated, Config, Event, Effect, Step, Finished, Faulted, Stepped, site_of, value_of, evaluated, step_by, step_at, step, Run, run_of, run_by, places, inl, inr, cases_Bool}
+use Rattle.dp_semantics.proofs.Names.{after_effect, leaves, taken, runs_by_step, ◌≡◌, ◌⊎◌, refl, sym, ap, ◌∙◌, ℕ, zero, suc, ◌+◌, Bool, true, false, List, []}
+use Rattle.dp_semantics.proofs.Names.{◌∷◌, ◌++◌, ℤ, length, Some, slice_get, Ok, Err, arith, FaultKind, Stmt, out-Stmt, Stmt-F, Call, Program, WithLoads}
+use Rattle.dp_semantics.proofs.Names.{Evaluated, Config, Event, Effect, Step, Finished, Faulted, Stepped, site_of, value_of, evaluated, step_by, step_at, step}
+use Rattle.dp_semantics.proofs.Names.{Run, run_of, run_by, places, inl, inr, cases_Bool}
 use Rattle.dp_base.specs.declared.End.{End}
 use Rattle.dp_base.specs.declared.End.TheVariants as run_end
 use Rattle.dp_tree.specs.Step.{line_of}
@@ -17,7 +20,8 @@ pub record PlaceAt (X : Type 0) (test : X → Bool) (xs : List X) (n i k : ℕ) 
   pub next : slice_get (places test n xs) (suc i) ≡ slice_get (places test (suc k) behind) 0
 
 -- the first one further on
-later_place : {X : Type 0} (test : X → Bool) (x : X) (xs : List X) (n j i k : ℕ) → slice_get (places test n (x ∷ xs)) (suc j) ≡ slice_get (places test (suc n) xs) (suc i) → PlaceAt X test xs (suc n) i k → PlaceAt X test (x ∷ xs) n j k
+later_place : {X : Type 0} (test : X → Bool) (x : X) (xs : List X) (n j i k : ℕ) → slice_get (places test n (x ∷ xs)) (suc j) ≡ slice_get
+    (places test (suc n) xs) (suc i) → PlaceAt X test xs (suc n) i k → PlaceAt X test (x ∷ xs) n j k
 later_place test x xs n j i k skip q = record {
   front = x ∷ q.front;
   found = q.found;
@@ -32,7 +36,16 @@ pub place_at : {X : Type 0} (test : X → Bool) (xs : List X) (n i k : ℕ) → 
 place_at test [] n i k e = absurd (cc)
 place_at test (x ∷ xs) n zero k e = elim (cases_Bool (test x)) [
   | inl t ↦ let found : Some n ≡ Some k = rw t at e in let here : n ≡ k = cc found in
-      record { front = []; found = x; behind = xs; is = refl; place_is = omega (arith, here); passes = t; next = rw t (ap (λ (m : ℕ). slice_get (places test (suc m) xs) 0) here) }
+      record {
+        front = [];
+        found = x;
+        behind = xs;
+        is = refl;
+        place_is = omega (arith, here);
+        passes = t;
+        next = rw t (ap
+            (λ (m : ℕ). slice_get (places test (suc m) xs) 0) here);
+      }
   | inr t ↦ later_place test x xs n zero zero k (rw t) (place_at test xs (suc n) zero k (rw t at e))
 ]
 place_at test (x ∷ xs) n (suc i) k e = elim (cases_Bool (test x)) [
@@ -41,7 +54,8 @@ place_at test (x ∷ xs) n (suc i) k e = elim (cases_Bool (test x)) [
 ]
 
 -- the first of all is the first place, where it passes
-pub first_place : {X : Type 0} (test : X → Bool) (n : ℕ) (xs : List X) (x : X) → slice_get xs 0 ≡ Some x → test x ≡ true → slice_get (places test n xs) 0 ≡ Some n
+pub first_place : {X : Type 0} (test : X → Bool) (n : ℕ) (xs : List X) (x : X) → slice_get xs 0 ≡ Some x → test x ≡ true →
+    slice_get (places test n xs) 0 ≡ Some n
 first_place test n [] x e t = absurd (cc)
 first_place test n (y ∷ xs) x e t = let same : y ≡ x = cc in rw (same, t)
 
@@ -56,20 +70,26 @@ module _ (p : Program) (input : List ℤ) where
   unfolding run_of
   run_step m c s e = ap (run_by (run_of p input m) (suc m) c) e
 
-  step_is : (x : Stmt) (rest : List Stmt) (cells : List ℤ) (h : Stmt-F Stmt) → is_step h ≡ true → step_at p input cells x rest h ≡ step_by p (site_of h) (evaluated p input cells h) (after_effect p x rest cells h)
+  step_is : (x : Stmt) (rest : List Stmt) (cells : List ℤ) (h : Stmt-F Stmt) → is_step h ≡ true → step_at p input cells x rest h ≡ step_by p (site_of h)
+      (evaluated p input cells h) (after_effect p x rest cells h)
   step_is x rest cells (Call f line args) s = absurd (cc)
   step_is x rest cells _ s = refl
 
-  pub step_on : (x : Stmt) (rest : List Stmt) (cells : List ℤ) (v : WithLoads Effect) → is_step (out-Stmt x) ≡ true → evaluated p input cells (out-Stmt x) ≡ Ok v →
+  pub step_on : (x : Stmt) (rest : List Stmt) (cells : List ℤ) (v : WithLoads Effect) → is_step (out-Stmt x) ≡ true →
+      evaluated p input cells (out-Stmt x) ≡ Ok v →
       step p input (record { to_do = x ∷ rest; cells = cells }) ≡ Stepped (event_of (out-Stmt x) v) (after_effect p x rest cells (out-Stmt x) v.value)
-  step_on x rest cells v s e = step_is x rest cells (out-Stmt x) s ∙ ap (λ (r : Evaluated Effect). step_by p (site_of (out-Stmt x)) r (after_effect p x rest cells (out-Stmt x))) e
+  step_on x rest cells v s e =
+      step_is x rest cells (out-Stmt x) s ∙ ap (λ (r : Evaluated Effect). step_by p (site_of (out-Stmt x)) r (after_effect p x rest cells (out-Stmt x))) e
 
-  pub step_off : (x : Stmt) (rest : List Stmt) (cells : List ℤ) (kind : FaultKind) → is_step (out-Stmt x) ≡ true → evaluated p input cells (out-Stmt x) ≡ Err kind →
+  pub step_off : (x : Stmt) (rest : List Stmt) (cells : List ℤ) (kind : FaultKind) → is_step (out-Stmt x) ≡ true →
+      evaluated p input cells (out-Stmt x) ≡ Err kind →
       step p input (record { to_do = x ∷ rest; cells = cells }) ≡ Faulted (record { kind = kind; line = line_of p (site_of (out-Stmt x)) })
-  step_off x rest cells kind s e = step_is x rest cells (out-Stmt x) s ∙ ap (λ (r : Evaluated Effect). step_by p (site_of (out-Stmt x)) r (after_effect p x rest cells (out-Stmt x))) e
+  step_off x rest cells kind s e =
+      step_is x rest cells (out-Stmt x) s ∙ ap (λ (r : Evaluated Effect). step_by p (site_of (out-Stmt x)) r (after_effect p x rest cells (out-Stmt x))) e
 
   -- how a run ends before a statement: the fuel is spent, or its evaluation faults where a step is left
-  abbrev pub StopsSo : {Spent : Type 0} (x : Stmt) (cells : List ℤ) → Type 0 → End → Spent ⊎ ((kind : FaultKind) × (evaluated p input cells (out-Stmt x) ≡ Err kind)) → Type 0
+  abbrev pub StopsSo : {Spent : Type 0} (x : Stmt) (cells : List ℤ) → Type 0 → End → Spent
+      ⊎ ((kind : FaultKind) × (evaluated p input cells (out-Stmt x) ≡ Err kind)) → Type 0
   StopsSo x cells Left end (inl spent) = end ≡ run_end.Fuel
   StopsSo x cells Left end (inr (kind, e)) = Left × (end ≡ run_end.Fault (record { kind = kind; line = line_of p (site_of (out-Stmt x)) }))
 
@@ -77,15 +97,23 @@ module _ (p : Program) (input : List ℤ) where
   abbrev pub Leads : Stmt → List Stmt → List ℤ → Step → Type 0
   Leads x rest cells Finished = Unit {0}
   Leads x rest cells (Faulted fault) = Unit {0}
-  Leads x rest cells (Stepped event next) = (v : WithLoads Effect) × (next ≡ after_effect p x rest cells (out-Stmt x) v.value) × (event ≡ event_of (out-Stmt x) v)
+  Leads x rest cells (Stepped event next) =
+      (v : WithLoads Effect) × (next ≡ after_effect p x rest cells (out-Stmt x) v.value) × (event ≡ event_of (out-Stmt x) v)
       × (is_step (out-Stmt x) ≡ true) × (evaluated p input cells (out-Stmt x) ≡ Ok v)
 
   pub step_leads : (x : Stmt) (rest : List Stmt) (cells : List ℤ) → Leads x rest cells (step p input (record { to_do = x ∷ rest; cells = cells }))
   step_leads x rest cells = by (out-Stmt x) refl
     where
-      made : (h : Stmt-F Stmt) → out-Stmt x ≡ h → is_step h ≡ true → (r : Evaluated Effect) → evaluated p input cells h ≡ r → Leads x rest cells (step_by p (site_of h) r (after_effect p x rest cells h))
-      made h e step (Ok v) gave =
-          (v, ap (λ (g : Stmt-F Stmt). after_effect p x rest cells g v.value) (sym e), ap (λ (g : Stmt-F Stmt). event_of g v) (sym e), ap is_step e ∙ step, ap (evaluated p input cells) e ∙ gave)
+      made : (h : Stmt-F Stmt) → out-Stmt x ≡ h → is_step h ≡ true → (r : Evaluated Effect) → evaluated p input cells h ≡ r →
+          Leads x rest cells (step_by p (site_of h) r (after_effect p x rest cells h))
+      made h e step (Ok v) gave = (
+        v,
+        ap (λ (g : Stmt-F Stmt). after_effect p x rest cells g v.value) (sym e),
+        ap (λ (g : Stmt-F Stmt). event_of g v) (sym
+            e),
+        ap is_step e ∙ step,
+        ap (evaluated p input cells) e ∙ gave,
+      )
       made h e step (Err kind) gave = tt
 
       by : (h : Stmt-F Stmt) → out-Stmt x ≡ h → Leads x rest cells (step_at p input cells x rest h)
@@ -93,9 +121,11 @@ module _ (p : Program) (input : List ℤ) where
       by h e = made h e refl (evaluated p input cells h) refl
 
   -- a break leaves its region where it is taken
-  pub leaves_taken : (x : Stmt) (rest : List Stmt) (cells : List ℤ) (v : WithLoads Effect) → is_step (out-Stmt x) ≡ true → evaluated p input cells (out-Stmt x) ≡ Ok v → leaves v.value ≡ taken (out-Stmt x) (value_of v.value)
+  pub leaves_taken : (x : Stmt) (rest : List Stmt) (cells : List ℤ) (v : WithLoads Effect) → is_step (out-Stmt x) ≡ true →
+      evaluated p input cells (out-Stmt x) ≡ Ok v → leaves v.value ≡ taken (out-Stmt x) (value_of v.value)
   leaves_taken x rest cells v s e =
-      (stepped p input (record { to_do = x ∷ rest; cells = cells }) x rest (event_of (out-Stmt x) v) (after_effect p x rest cells (out-Stmt x) v.value) refl (step_on x rest cells v s e)).left
+      (stepped p input (record { to_do = x ∷ rest; cells = cells }) x rest (event_of (out-Stmt x) v) (after_effect p x rest cells (out-Stmt x) v.value) refl
+      (step_on x rest cells v s e)).left
 
   -- The run from one of its configurations on.
   pub record From (m : ℕ) (c : Config) (front : List Config) (d : Config) (behind : List Config) : Type 0 where
@@ -114,7 +144,8 @@ module _ (p : Program) (input : List ℤ) where
   one_config c f d [] behind e = cc
   one_config c f d (g ∷ front) behind e = cc
 
-  pub run_from : (front : List Config) (m : ℕ) (c d : Config) (behind : List Config) → (run_of p input m c).configs ≡ front ++ d ∷ behind → From m c front d behind
+  pub run_from : (front : List Config) (m : ℕ) (c d : Config) (behind : List Config) → (run_of p input m c).configs ≡ front ++ d ∷ behind →
+      From m c front d behind
   unfolding run_of
   run_from [] m c d behind e =
       let first = sym (run_first m c) ∙ ap (λ (cs : List Config). slice_get cs 0) e in

@@ -1,5 +1,8 @@
 -- A clean iteration has at most as many events as all stages together may have words.
-use Rattle.dp_semantics.proofs.Names.{◌≡◌, inl, inr, refl, sym, ap, ◌∙◌, subst, ℕ, zero, suc, ◌+◌, ◌<◌, ◌≤◌, Bool, true, false, if◌then◌else◌, List, [], ◌∷◌, length, nat_le, arith, leb-true, eq-eqb, cases_eq, cases_Bool, sum_by-cons, flat_map, Program, Plan, Stmt, Event, run_of, iteration, is_region, Access, accesses, stage_of, is_checked, region_accesses, is_clean, event_words, words_at, word_count, fits_words, and_parts}
+use Rattle.dp_semantics.proofs.Names.{◌≡◌, inl, inr, refl, sym, ap, ◌∙◌, subst, ℕ, zero, suc, ◌+◌, ◌<◌, ◌≤◌, Bool, true, false, if◌then◌else◌, List, [], ◌∷◌}
+use Rattle.dp_semantics.proofs.Names.{length, nat_le, arith, leb-true, eq-eqb, cases_eq, cases_Bool, sum_by-cons, flat_map, Program, Plan, Stmt, Event, run_of}
+use Rattle.dp_semantics.proofs.Names.{iteration, is_region, Access, accesses, stage_of, is_checked, region_accesses, is_clean, event_words, words_at}
+use Rattle.dp_semantics.proofs.Names.{word_count, fits_words, and_parts}
 use Rattle.std.specs.Prelude.{◌*◌}
 use Rattle.std.proofs.Math.Nat.{suc-mul}
 use Rattle.dp_semantics.specs.Laws.{LongIsUnclean}
@@ -15,7 +18,14 @@ total count k (suc n) = count k + total count (k + 1) n
 
 total_most : (count : ℕ → ℕ) (most n k : ℕ) → ((s : ℕ) → k ≤ s → s < k + n → count s ≤ most) → total count k n ≤ n * most
 total_most count most zero k h = omega arith
-total_most count most (suc n) k h = omega (arith, suc-mul n most, h k (omega arith) (omega arith), total_most count most n (k + 1) (λ s low high. h s (omega (arith, low)) (omega (arith, high))))
+total_most count most (suc n) k h =
+    omega (
+      arith,
+      suc-mul n most,
+      h k (omega arith) (omega arith),
+      total_most count most n (k + 1) (λ s low high. h s (omega (arith, low))
+          (omega (arith, high))),
+    )
 
 total_add : (f g h : ℕ → ℕ) → ((s : ℕ) → h s ≡ f s + g s) → (n k : ℕ) → total h k n ≡ total f k n + total g k n
 total_add f g h e zero k = refl
@@ -34,7 +44,8 @@ module _ (p : Program) (plan : Plan) where
   IsStaged event = (1 ≤ stage_of p plan event.site) × (stage_of p plan event.site < 1 + length plan.stages)
 
   some_word : (event : Event) → 1 ≤ words_at p plan (stage_of p plan event.site) event
-  some_word event = subst (λ (b : Bool). 1 ≤ (if b then event_words p plan event else 0)) (sym (eq-eqb (stage_of p plan event.site) (stage_of p plan event.site) refl)) (by (is_checked p plan event.site))
+  some_word event = subst (λ (b : Bool). 1 ≤ (if b then event_words p plan event else 0))
+      (sym (eq-eqb (stage_of p plan event.site) (stage_of p plan event.site) refl)) (by (is_checked p plan event.site))
     where
       by : (b : Bool) → 1 ≤ (if b then length event.loads + 1 else 1)
       by true = omega arith
@@ -45,12 +56,15 @@ module _ (p : Program) (plan : Plan) where
   counted (event ∷ rest) staged =
       let more = counted rest staged.1 in
       let one = total_one (λ s. words_at p plan s event) (stage_of p plan event.site) (some_word event) (length plan.stages) 1 staged.0.0 staged.0.1 in
-      let all = total_add (λ s. words_at p plan s event) (word_count p plan rest) (word_count p plan (event ∷ rest)) (λ s. sum_by-cons (words_at p plan s) event rest) (length plan.stages) 1 in
+      let all = total_add (λ s. words_at p plan s event) (word_count p plan rest) (word_count p plan (event ∷ rest))
+      (λ s. sum_by-cons (words_at p plan s) event rest) (length plan.stages) 1 in
       omega (arith, more, one, all)
 
-  fitting_count : (events : List Event) → fits_words p plan events ≡ true → total (word_count p plan events) 1 (length plan.stages) ≤ length plan.stages * plan.words
+  fitting_count : (events : List Event) → fits_words p plan events ≡ true → total (word_count p plan events) 1 (length plan.stages) ≤ length
+      plan.stages * plan.words
   fitting_count events fits = total_most (word_count p plan events) plan.words (length plan.stages) 1
-      (λ s low high. leb-true (word_count p plan events s) plan.words (all_count (λ u. nat_le (word_count p plan events u) plan.words) (length plan.stages) 1 s fits low high))
+      (λ s low high. leb-true (word_count p plan events s) plan.words (all_count (λ u. nat_le (word_count p plan events u) plan.words)
+      (length plan.stages) 1 s fits low high))
 
 module _ {p : Program} {plan : Plan} (a : Accepted p plan) where
   -- the access's stage is one of the plan's
@@ -76,7 +90,8 @@ module _ {p : Program} {plan : Plan} (a : Accepted p plan) where
   long_is_unclean input fuel c begun e i long = elim (cases_Bool (is_clean p plan (run_of p input fuel c) e i)) [
     | inl clean ↦
         let events : List Event = iteration (run_of p input fuel c) plan.region i in
-        let staged = each_map (AtSite Staged) (IsStaged p plan) (λ event found. subst (λ (s : ℕ). (1 ≤ stage_of p plan s) × (stage_of p plan s < 1 + length plan.stages)) found.1 found.2) events (iteration_sites lone input fuel c begun i) in
+        let staged = each_map (AtSite Staged) (IsStaged p plan) (λ event found. subst (λ (s : ℕ). (1 ≤ stage_of p plan s)
+        × (stage_of p plan s < 1 + length plan.stages)) found.1 found.2) events (iteration_sites lone input fuel c begun i) in
         let fits = (and_parts _ (fits_words p plan events) clean).1 in
         absurd (omega (arith, long, counted p plan events staged, fitting_count p plan events fits))
     | inr other ↦ other

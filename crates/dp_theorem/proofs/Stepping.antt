@@ -1,7 +1,14 @@
 -- One step of the source against one step, or none, of a stage: it stays in step, and its words are the event's.
-use Rattle.dp_semantics.proofs.Names.{closes_at, and_parts, well_nested, ◌≡◌, inl, inr, refl, sym, ap, ◌∙◌, subst, ℕ, suc, ◌+◌, ◌-◌, ◌<◌, ◌≤◌, true, ◌||◌, List, [], ◌∷◌, ◌++◌, ℤ, length, length-append, get_or, sum_by, slice_set, Ok, arith, eq-eqb, ne_eqb, le-leb, append-nil, length-set, sum_by-set, cases_eq, cases_order, Word, SiteId, Stmt, out-Stmt, roll-Stmt, out-roll-Stmt, Stmt-F, If, While, Program, Plan, WithLoads, Event, Effect, followed, site_of, value_of, evaluated, stage_of, first_site, Past, as_assumed, project, project_all, Taken, words_of, effect_by, taken_from, word_list, Turn, turned, stage_at, consumed, words_left, turn_step, turn_from, Epoch, or-false}
-pub use Rattle.dp_semantics.proofs.Taking.{words_for, words_here, event_passes, words_elsewhere, event_held, word_list_is, word_list_same, word_list_other, effect_of_word, taken_event}
-pub use Rattle.dp_theorem.proofs.Source.{event_of, past_of, stage_for, Stands, stands_next, own_site, form_of, stage_does, own_loads, Gives, source_does, event_sees, well_parts, each_joins, each_parts, head_fact, head_well, store_within}
+use Rattle.dp_semantics.proofs.Names.{closes_at, and_parts, well_nested, ◌≡◌, inl, inr, refl, sym, ap, ◌∙◌, subst, ℕ, suc, ◌+◌, ◌-◌, ◌<◌, ◌≤◌, true, ◌||◌, List}
+use Rattle.dp_semantics.proofs.Names.{[], ◌∷◌, ◌++◌, ℤ, length, length-append, get_or, sum_by, slice_set, Ok, arith, eq-eqb, ne_eqb, le-leb, append-nil}
+use Rattle.dp_semantics.proofs.Names.{length-set, sum_by-set, cases_eq, cases_order, Word, SiteId, Stmt, out-Stmt, roll-Stmt, out-roll-Stmt, Stmt-F, If, While}
+use Rattle.dp_semantics.proofs.Names.{Program, Plan, WithLoads, Event, Effect, followed, site_of, value_of, evaluated, stage_of, first_site, Past, as_assumed}
+use Rattle.dp_semantics.proofs.Names.{project, project_all, Taken, words_of, effect_by, taken_from, word_list, Turn, turned, stage_at, consumed, words_left}
+use Rattle.dp_semantics.proofs.Names.{turn_step, turn_from, Epoch, or-false}
+pub use Rattle.dp_semantics.proofs.Taking.{words_for, words_here, event_passes, words_elsewhere, event_held, word_list_is, word_list_same, word_list_other}
+pub use Rattle.dp_semantics.proofs.Taking.{effect_of_word, taken_event}
+pub use Rattle.dp_theorem.proofs.Source.{event_of, past_of, stage_for, Stands, stands_next, own_site, form_of, stage_does, own_loads, Gives, source_does}
+pub use Rattle.dp_theorem.proofs.Source.{event_sees, well_parts, each_joins, each_parts, head_fact, head_well, store_within}
 pub use Rattle.dp_theorem.proofs.Seeing.{stored_none, seen_alike, seen_base, up_to, Sees, stored-length, sees_later, sees_stored}
 pub use Rattle.dp_theorem.proofs.Projected.{reached, assumed_of, late_stays, proj_head, stays_there, kept_followed, unseen}
 use Rattle.dp_semantics.proofs.Setting.{size, Fit, Form, project_out, all_well}
@@ -47,7 +54,8 @@ module _ (p : Program) (plan : Plan) (s : ℕ) where
   effect_proj (While site cond a) w = refl
   effect_proj _ w = refl
 
-module _ {k : Epoch} (ok : Fit k) {i : ℕ} {x : Stmt} {rest : List Stmt} {earlier : List Past} {cells : List ℤ} (at : Stands k i (x ∷ rest) earlier cells) (s : ℕ) where
+module _ {k : Epoch} (ok : Fit k) {i : ℕ} {x : Stmt} {rest : List Stmt} {earlier : List Past} {cells : List ℤ}
+    (at : Stands k i (x ∷ rest) earlier cells) (s : ℕ) where
   open k use {program, plan, input}
 
   -- the statement, its head and the rest as the stage has them
@@ -80,7 +88,8 @@ module _ {k : Epoch} (ok : Fit k) {i : ℕ} {x : Stmt} {rest : List Stmt} {earli
       pub head_is : c.to_do ≡ staying ∷ onward
       head_is = b.to_do_is ∙ ap (λ ys. ys ++ onward) stays
 
-      turn_head : (d : Turn) → turn_step program plan input s c staying onward here ≡ Ok d → (m n : ℕ) → m ≡ 1 + n → turn_from program plan input s m c ≡ turn_from program plan input s n d
+      turn_head : (d : Turn) → turn_step program plan input s c staying onward here ≡ Ok d → (m n : ℕ) → m ≡ 1 + n →
+          turn_from program plan input s m c ≡ turn_from program plan input s n d
       unfolding turn_from
       turn_head d made m n e = let one : m ≡ suc n = omega (arith, e) in rw (one, head_is, out-roll-Stmt here, made)
 
@@ -88,23 +97,37 @@ module _ {k : Epoch} (ok : Fit k) {i : ℕ} {x : Stmt} {rest : List Stmt} {earli
       stands_on : (v : WithLoads Effect) → Form program (out-Stmt x) v.value → (own : List Word) (lists : List (List Word)) → s ≤ suc (length lists) →
           InStep k i s (after v) (past_of i x v ∷ earlier) (turned program plan c staying onward here v.value own lists)
       stands_on v form own lists wide = record {
-        to_do_is = kept_followed program plan s x staying rest (out-Stmt x) (value_of v.value) (head_well ok at) (and_parts (well_nested program plan x) (all_well program plan rest) at.well).1 stays;
-        sees = sees_stored k s i earlier c.cells (event_of (out-Stmt x) v) (omega (arith, early)) (λ cell value e. subst (λ (n : ℕ). cell < n) (sym b.size_is) (store_within ok at v form cell value e)) b.sees;
+        to_do_is = kept_followed program plan s x staying rest (out-Stmt x) (value_of v.value) (head_well ok at)
+            (and_parts (well_nested program plan x) (all_well program plan rest) at.well).1 stays;
+        sees = sees_stored k s i earlier c.cells (event_of (out-Stmt x) v) (omega (arith, early)) (λ cell value e. subst (λ (n : ℕ). cell < n) (sym b.size_is)
+            (store_within ok at v form cell value e)) b.sees;
         size_is = stored-length v.value c.cells ∙ b.size_is;
         wide = wide;
       }
 
-      closes : (v : WithLoads Effect) → (c.closing || closes_at (first_site program plan) (site_of here).0 v.value) ≡ (c.closing || closes_at (first_site program plan) (site_of (out-Stmt x)).0 v.value)
+      closes : (v : WithLoads Effect) → (c.closing || closes_at (first_site program plan) (site_of here).0 v.value)
+          ≡ (c.closing || closes_at (first_site program plan) (site_of (out-Stmt x)).0 v.value)
       closes v = ap (λ (n : SiteId). c.closing || closes_at (first_site program plan) n.0 v.value) site_same
 
     -- At its own site the stage adds the event's words.
-    own_step_made : (v : WithLoads Effect) (at_s : stage_for k x ≡ s) → Gives k c.cells x v → length (c.own ++ words_for program plan s (event_of (out-Stmt x) v)) ≤ plan.words →
-        turn_step program plan input s c staying onward here ≡ Ok (turned program plan c staying onward here v.value (c.own ++ words_for program plan s (event_of (out-Stmt x) v)) c.lists)
+    own_step_made : (v : WithLoads Effect) (at_s : stage_for k x ≡ s) → Gives k c.cells x v →
+        length (c.own ++ words_for program plan s (event_of (out-Stmt x) v)) ≤ plan.words →
+        turn_step program plan input s c staying onward here ≡ Ok (turned program plan c staying onward here v.value
+        (c.own ++ words_for program plan s (event_of (out-Stmt x) v)) c.lists)
     own_step_made v at_s gave fits =
         let mine = words_here program plan s (event_of (out-Stmt x) v) at_s in
-        rw (eq-eqb (stage_at program plan here) s (stage_same ∙ at_s), evaluated_proj program plan s input c.cells (out-Stmt x), gave, site_same, mine, le-leb _ _ (rw mine at fits))
+        rw (
+          eq-eqb (stage_at program plan here) s (stage_same ∙ at_s),
+          evaluated_proj program plan s input c.cells (out-Stmt
+              x),
+          gave,
+          site_same,
+          mine,
+          le-leb _ _ (rw mine at fits),
+        )
 
-    own_advance : (v : WithLoads Effect) → stage_for k x ≡ s → Gives k c.cells x v → Form program (out-Stmt x) v.value → length (c.own ++ words_for program plan s (event_of (out-Stmt x) v)) ≤ plan.words →
+    own_advance : (v : WithLoads Effect) → stage_for k x ≡ s → Gives k c.cells x v → Form program (out-Stmt x) v.value →
+        length (c.own ++ words_for program plan s (event_of (out-Stmt x) v)) ≤ plan.words →
         Advanced k i s (after v) (past_of i x v ∷ earlier) (event_of (out-Stmt x) v) c
     own_advance v at_s gave form fits = record {
       turn = turned program plan c staying onward here v.value (c.own ++ words_for program plan s (event_of (out-Stmt x) v)) c.lists;
@@ -115,8 +138,15 @@ module _ {k : Epoch} (ok : Fit k) {i : ℕ} {x : Stmt} {rest : List Stmt} {earli
       moved = record {
         own = refl;
         closing = closes (omega (arith, at_s)) v;
-        lists = λ t low high. sym (ap (λ ws. ws ++ word_list c.lists t) (words_elsewhere program plan t (event_of (out-Stmt x) v) (λ e. omega (arith, at_s, e, high))));
-        paid = omega (arith, length-append c.own (words_for program plan s (event_of (out-Stmt x) v)), ap length (words_here program plan s (event_of (out-Stmt x) v) at_s), some_word program plan (event_of (out-Stmt x) v));
+        lists = λ t low high. sym (ap (λ ws. ws ++ word_list c.lists t) (words_elsewhere program plan t (event_of (out-Stmt x) v)
+            (λ e. omega (arith, at_s, e, high))));
+        paid = omega (
+          arith,
+          length-append c.own (words_for program plan s (event_of (out-Stmt x) v)),
+          ap length (words_here program plan s
+              (event_of (out-Stmt x) v) at_s),
+          some_word program plan (event_of (out-Stmt x) v),
+        );
       };
     }
 
@@ -137,24 +167,40 @@ module _ {k : Epoch} (ok : Fit k) {i : ℕ} {x : Stmt} {rest : List Stmt} {earli
       lists_then = slice_set c.lists (stage_at program plan here - 1) more
 
       pub consumed_stands : InStep k i s (after v) (past_of i x v ∷ earlier) (consumed program plan c staying onward here taking)
-      consumed_stands = stands_on (omega (arith, before)) v form c.own lists_then (subst (λ (n : ℕ). s ≤ suc n) (sym (length-set c.lists (stage_at program plan here - 1) more)) b.wide)
+      consumed_stands = stands_on (omega (arith, before)) v form c.own lists_then
+          (subst (λ (n : ℕ). s ≤ suc n) (sym (length-set c.lists (stage_at program plan here - 1) more)) b.wide)
 
       pub consumed_moved : Moved k s 1 (event_of (out-Stmt x) v) c (consumed program plan c staying onward here taking)
       consumed_moved = record {
         own = sym (ap (λ ws. c.own ++ ws) (words_elsewhere program plan s (event_of (out-Stmt x) v) (λ e. omega (arith, e, before))) ∙ append-nil c.own);
         closing = closes (omega (arith, before)) v;
         lists = λ t low high. elim (cases_eq t (stage_at program plan here)) [
-          | inl e ↦ rw (e, words_here program plan (stage_at program plan here) (event_of (out-Stmt x) v) (sym stage_same), word_list_same c.lists (stage_at program plan here) more low_here (omega (arith, b.wide, stage_same, before))) left_is
-          | inr e ↦ rw (words_elsewhere program plan t (event_of (out-Stmt x) v) (λ q. e (sym q ∙ sym stage_same)), word_list_other c.lists (stage_at program plan here) t more low_here low e)
+          | inl e ↦ rw (
+            e,
+            words_here program plan (stage_at program plan here) (event_of (out-Stmt x) v) (sym stage_same),
+            word_list_same c.lists (stage_at
+                program plan here) more low_here (omega (arith, b.wide, stage_same, before)),
+          ) left_is
+          | inr e ↦ rw (
+            words_elsewhere program plan t (event_of (out-Stmt x) v) (λ q. e (sym q ∙ sym stage_same)),
+            word_list_other c.lists (stage_at program
+                plan here) t more low_here low e,
+          )
         ];
-        paid = omega (arith, sum_by-set length c.lists (stage_at program plan here - 1) more [] (omega (arith, low_here, b.wide, stage_same, before)), was, some_word program plan (event_of (out-Stmt x) v));
+        paid = omega (
+          arith,
+          sum_by-set length c.lists (stage_at program plan here - 1) more [] (omega (arith, low_here, b.wide, stage_same, before)),
+          was,
+          some_word program plan (event_of (out-Stmt x) v),
+        );
       }
         where
           low_here : 0 < stage_at program plan here
           low_here = omega (arith, stage_same, staged)
 
           was : length (get_or c.lists (stage_at program plan here - 1) []) ≡ length (words_of program plan (event_of (out-Stmt x) v)) + length more
-          was = ap length (sym (word_list_is c.lists (stage_at program plan here) low_here) ∙ left_is) ∙ length-append (words_of program plan (event_of (out-Stmt x) v)) more
+          was = ap length (sym (word_list_is c.lists (stage_at program plan here) low_here) ∙ left_is)
+              ∙ length-append (words_of program plan (event_of (out-Stmt x) v)) more
 
       consumed_advance : Advanced k i s (after v) (past_of i x v ∷ earlier) (event_of (out-Stmt x) v) c
       consumed_advance = record {
@@ -167,7 +213,8 @@ module _ {k : Epoch} (ok : Fit k) {i : ℕ} {x : Stmt} {rest : List Stmt} {earli
       }
 
     -- A later stage's site isn't in the stage's text.
-    later_advance : (v : WithLoads Effect) → s < stage_for k x → 0 < s → Form program (out-Stmt x) v.value → as_assumed program plan (site_of (out-Stmt x)).0 v.value ≡ true →
+    later_advance : (v : WithLoads Effect) → s < stage_for k x → 0 < s → Form program (out-Stmt x) v.value →
+        as_assumed program plan (site_of (out-Stmt x)).0 v.value ≡ true →
         Advanced k i s (after v) (past_of i x v ∷ earlier) (event_of (out-Stmt x) v) c
     later_advance v late real form told = record {
       turn = c;
@@ -175,7 +222,8 @@ module _ {k : Epoch} (ok : Fit k) {i : ℕ} {x : Stmt} {rest : List Stmt} {earli
       few = omega arith;
       runs = λ m n e. let same : m ≡ n = omega (arith, e) in ap (λ (u : ℕ). turn_from program plan input s u c) same;
       in_step = record {
-        to_do_is = b.to_do_is ∙ unseen program plan s x rest (out-Stmt x) v.value (head_well ok at) (project_out program plan s x) late form (assumed_of program plan (site_of (out-Stmt x)).0 v.value told) real;
+        to_do_is = b.to_do_is ∙ unseen program plan s x rest (out-Stmt x) v.value (head_well ok at) (project_out program plan s x) late form
+            (assumed_of program plan (site_of (out-Stmt x)).0 v.value told) real;
         sees = sees_later k s i earlier c.cells (event_of (out-Stmt x) v) late b.sees;
         size_is = b.size_is;
         wide = b.wide;
@@ -185,18 +233,22 @@ module _ {k : Epoch} (ok : Fit k) {i : ℕ} {x : Stmt} {rest : List Stmt} {earli
         closing = rw (
           ne_eqb (site_of (out-Stmt x)).0 (first_site program plan)
               (λ e. let one : stage_for k x ≡ 1 = ap (stage_of program plan) e ∙ ok.accepted.staged in omega (arith, one, late, real)),
-          late_stays program plan (site_of (out-Stmt x)).0 v.value (omega (arith, late, real)) (assumed_of program plan (site_of (out-Stmt x)).0 v.value told).1,
+          late_stays program plan (site_of (out-Stmt x)).0 v.value (omega (arith, late, real))
+              (assumed_of program plan (site_of (out-Stmt x)).0 v.value told).1,
           or-false c.closing,
         );
-        lists = λ t low high. sym (ap (λ ws. ws ++ word_list c.lists t) (words_elsewhere program plan t (event_of (out-Stmt x) v) (λ e. omega (arith, e, late, high))));
+        lists = λ t low high. sym (ap (λ ws. ws ++ word_list c.lists t) (words_elsewhere program plan t (event_of (out-Stmt x) v)
+            (λ e. omega (arith, e, late, high))));
         paid = omega arith;
       };
     }
 
     -- A stage goes on in step where its own evaluation is the source's and fits, or else the words stand at the front.
-    pub advance : (v : WithLoads Effect) → 0 < s → Form program (out-Stmt x) v.value → as_assumed program plan (site_of (out-Stmt x)).0 v.value ≡ true → (stage_for k x ≡ s → Gives k c.cells x v) →
+    pub advance : (v : WithLoads Effect) → 0 < s → Form program (out-Stmt x) v.value → as_assumed program plan (site_of (out-Stmt x)).0 v.value ≡ true →
+        (stage_for k x ≡ s → Gives k c.cells x v) →
         length (c.own ++ words_for program plan s (event_of (out-Stmt x) v)) ≤ plan.words → (more : List Word) →
-        (stage_for k x < s → word_list c.lists (stage_for k x) ≡ words_of program plan (event_of (out-Stmt x) v) ++ more) → Advanced k i s (after v) (past_of i x v ∷ earlier) (event_of (out-Stmt x) v) c
+        (stage_for k x < s → word_list c.lists (stage_for k x) ≡ words_of program plan (event_of (out-Stmt x) v) ++ more) →
+        Advanced k i s (after v) (past_of i x v ∷ earlier) (event_of (out-Stmt x) v) c
     advance v real form told gave fits more front = elim (cases_order (stage_for k x) s) [
       | inl e ↦ own_advance v e (gave e) form fits
       | inr (inl e) ↦ consumed_advance v e form more (front e)

@@ -1,5 +1,7 @@
 -- A pair of sites that passes the test is far: the laws' premises from the text.
-use Rattle.dp_semantics.proofs.Names.{◌≡◌, refl, sym, ap, ◌∙◌, subst, ℕ, ◌<◌, Bool, true, List, [], ◌∷◌, ◌++◌, ℤ, Option, Some, None, list_all, list_all-append, flat_map-append, and_parts, and_from, Stmt, out-Stmt, Stmt-F, If, While, Region, Call, Program, Plan, Access, accesses, cell_count, well_nested}
+use Rattle.dp_semantics.proofs.Names.{◌≡◌, refl, sym, ap, ◌∙◌, subst, ℕ, ◌<◌, Bool, true, List, [], ◌∷◌, ◌++◌, ℤ, Option, Some, None, list_all, list_all-append}
+use Rattle.dp_semantics.proofs.Names.{flat_map-append, and_parts, and_from, Stmt, out-Stmt, Stmt-F, If, While, Region, Call, Program, Plan, Access, accesses}
+use Rattle.dp_semantics.proofs.Names.{cell_count, well_nested}
 use Rattle.std.proofs.Common.{cond}
 use Rattle.dp_semantics.proofs.Followed.{Joins, Parts, all_joins}
 use Rattle.dp_semantics.proofs.Setting.{Accepted, Sound, Each, each_split, accesses_all, accesses_at, accesses_out, all_well, well_at, well_out}
@@ -30,7 +32,8 @@ halves_are v (s ∷ rest) h e = by (stride_of v (out-Stmt s)) refl e (λ g q. ha
         let later = go g q in
         subst (Split v (s ∷ rest)) same (record { is = ap (λ (xs : List Stmt). s ∷ xs) later.is; stride = later.stride })
 
-    by : (o : Option ℤ) → stride_of v (out-Stmt s) ≡ o → halves_by s rest o (halves v rest) ≡ Some h → ((g : Halves) → halves v rest ≡ Some g → Split v rest g) → Split v (s ∷ rest) h
+    by : (o : Option ℤ) → stride_of v (out-Stmt s) ≡ o → halves_by s rest o (halves v rest) ≡ Some h →
+        ((g : Halves) → halves v rest ≡ Some g → Split v rest g) → Split v (s ∷ rest) h
     by (Some k) q e go = one k q h (cc e)
     by None q e go = more (halves v rest) refl e go
 
@@ -67,28 +70,34 @@ module _ (test : SiteTouch → Bool) where
   touch_head p plan (Region r site cond a) w e = absurd (cc)
   touch_head p plan _ w e = (and_parts _ _ e).0
 
-module _ {p : Program} {plan : Plan} (a : Accepted p plan) (input : List ℤ) (v : ℕ) (room : 0 < cell_count p (record { 0 = v })) (test : ℤ → ℤ → Bool) (d u : ℕ) (s : Stored) where
+module _ {p : Program} {plan : Plan} (a : Accepted p plan) (input : List ℤ) (v : ℕ) (room : 0 < cell_count p (record { 0 = v })) (test : ℤ → ℤ → Bool)
+    (d u : ℕ) (s : Stored) where
   abbrev pub NotStored : Access → Type 0
   NotStored c = c.stores ≡ Some v → ⊥
 
   -- what is known of a piece of the body
   abbrev pub Piece : ℤ → List Stmt → Type 0
-  Piece shift xs = (all_well p plan xs ≡ true) × ((Each (Sound p plan) (accesses_all xs) × Each NotStored (accesses_all xs)) × TouchesPass (touch_passes test v d u s shift) xs)
+  Piece shift xs = (all_well p plan xs ≡ true) × ((Each (Sound p plan) (accesses_all xs) × Each NotStored (accesses_all xs))
+      × TouchesPass (touch_passes test v d u s shift) xs)
 
   abbrev Says : ℤ → Stmt-F Stmt → Type 0
   Says shift h = Still a.laid input v room h × Both p v d u s.array s.place (Passed p test v d u s shift) shift h
 
   pub piece_facts : (shift : ℤ) → Facts (Piece shift) (Says shift)
   piece_facts shift = record {
-    joins = joins_both (λ xs. all_well p plan xs ≡ true) _ (all_joins (well_nested p plan)) (joins_both _ (TouchesPass (touch_passes test v d u s shift)) (joins_both _ _ (each_joins (Sound p plan)) (each_joins NotStored)) (touches_joins (touch_passes test v d u s shift)));
+    joins = joins_both (λ xs. all_well p plan xs ≡ true) _ (all_joins (well_nested p plan)) (joins_both _ (TouchesPass (touch_passes test v d u s shift))
+        (joins_both _ _ (each_joins (Sound p plan)) (each_joins NotStored)) (touches_joins (touch_passes test v d u s shift)));
     parts = λ x rest h. parts_both (λ xs. all_well p plan xs ≡ true) _ (out-Stmt x) (well_parts p plan (out-Stmt x) (head x rest h.0))
-        (parts_both _ (TouchesPass (touch_passes test v d u s shift)) (out-Stmt x) (parts_both _ _ (out-Stmt x) (each_parts (Sound p plan) (out-Stmt x) (at_head (Sound p plan) x rest h.1.0.0)) (each_parts NotStored (out-Stmt x) (at_head NotStored x rest h.1.0.1)))
+        (parts_both _ (TouchesPass (touch_passes test v d u s shift)) (out-Stmt x)
+        (parts_both _ _ (out-Stmt x) (each_parts (Sound p plan) (out-Stmt x) (at_head (Sound p plan) x rest h.1.0.0))
+        (each_parts NotStored (out-Stmt x) (at_head NotStored x rest h.1.0.1)))
         (touches_parts (touch_passes test v d u s shift) (out-Stmt x) (touched x rest h.1.1)));
     fact = λ x rest h.
         let well = head x rest h.0 in
         let sound = head_fact (Sound p plan) p plan (out-Stmt x) well (at_head (Sound p plan) x rest h.1.0.0) in (
           (sound, head_fact NotStored p plan (out-Stmt x) well (at_head NotStored x rest h.1.0.1)),
-          both_there p test v d u s shift (out-Stmt x) sound.reads (touch_head (touch_passes test v d u s shift) p plan (out-Stmt x) well (touched x rest h.1.1)),
+          both_there p test v d u s shift (out-Stmt x) sound.reads (touch_head (touch_passes test v d u s shift) p plan (out-Stmt x) well
+              (touched x rest h.1.1)),
         );
   }
     where
@@ -98,5 +107,7 @@ module _ {p : Program} {plan : Plan} (a : Accepted p plan) (input : List ℤ) (v
       at_head : (Q : Access → Type 0) (x : Stmt) (rest : List Stmt) → Each Q (accesses_all (x ∷ rest)) → Each Q (accesses_at (out-Stmt x))
       at_head Q x rest e = subst (λ (xs : List Access). Each Q xs) (accesses_out x) (each_split Q (accesses x) (accesses_all rest) e).0
 
-      touched : (x : Stmt) (rest : List Stmt) → TouchesPass (touch_passes test v d u s shift) (x ∷ rest) → list_all (touch_passes test v d u s shift) (touches_at (out-Stmt x)) ≡ true
-      touched x rest e = ap (list_all (touch_passes test v d u s shift)) (sym (touches_out x)) ∙ (tests (touch_passes test v d u s shift) (touches x) (touches_all rest) e).0
+      touched : (x : Stmt) (rest : List Stmt) → TouchesPass (touch_passes test v d u s shift) (x ∷ rest) →
+          list_all (touch_passes test v d u s shift) (touches_at (out-Stmt x)) ≡ true
+      touched x rest e = ap (list_all (touch_passes test v d u s shift)) (sym (touches_out x))
+          ∙ (tests (touch_passes test v d u s shift) (touches x) (touches_all rest) e).0

@@ -1,5 +1,6 @@
 -- The stores, prints and steps that a Clean judgement tells are those of its iteration's events.
-use Rattle.dp_semantics.proofs.Names.{Tried, ◌≡◌, refl, ap, List, [], ◌∷◌, length-map, map, filter_map, cons_option, Option, slice_set, Event, Effect, Stored, Printed, Decided, Plan, iteration, effect_in}
+use Rattle.dp_semantics.proofs.Names.{Tried, ◌≡◌, refl, ap, List, [], ◌∷◌, length-map, map, filter_map, cons_option, Option, slice_set, Event, Effect, Stored}
+use Rattle.dp_semantics.proofs.Names.{Printed, Decided, Plan, iteration, effect_in}
 use Rattle.dp_tree.specs.Trace.{printed_by}
 use Rattle.dp_semantics.specs.Told.{store_made, StoresAreAll, Tells}
 

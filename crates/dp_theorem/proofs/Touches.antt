@@ -1,5 +1,7 @@
 -- The touches of a statement by its head, and the numbers of strides.
-use Rattle.dp_semantics.proofs.Names.{opened_statement, ◌≡◌, sym, ap, ◌∙◌, List, [], ◌∷◌, ◌++◌, flat_map, Stmt, out-Stmt, roll-Stmt, roll-out-Stmt, hidden-the_row-Stmt-0, rolls-Assign, rolls-Store, rolls-Print, rolls-If, rolls-While, rolls-Region, rolls-Break, rolls-Call, Stmt-F, Assign, Store, Print, If, While, Region, Break, Call, site_of}
+use Rattle.dp_semantics.proofs.Names.{opened_statement, ◌≡◌, sym, ap, ◌∙◌, List, [], ◌∷◌, ◌++◌, flat_map, Stmt, out-Stmt, roll-Stmt, roll-out-Stmt}
+use Rattle.dp_semantics.proofs.Names.{hidden-the_row-Stmt-0, rolls-Assign, rolls-Store, rolls-Print, rolls-If, rolls-While, rolls-Region, rolls-Break}
+use Rattle.dp_semantics.proofs.Names.{rolls-Call, Stmt-F, Assign, Store, Print, If, While, Region, Break, Call, site_of}
 use Rattle.dp_plan.specs.Touch.{head_reads, head_store}
 use Rattle.dp_tree.proofs.Asked.{asked_hidden}
 use Rattle.dp_plan.specs.IsFar.{SiteTouch, touch_at, touches, touches_in}

@@ -1,5 +1,8 @@
 -- What a turn that came to its end says of its steps.
-use Rattle.dp_semantics.proofs.Names.{◌≡◌, refl, sym, ap, ◌∙◌, append_assoc, ℕ, zero, suc, ◌<◌, ◌≤◌, ◌==◌, List, [], ◌∷◌, ◌++◌, ℤ, length, nat_le, Result, Ok, Err, arith, leb-true, eq-eqb, append-nil, Word, Stmt, out-Stmt, Stmt-F, Program, Plan, WithLoads, Evaluated, Effect, evaluated, Void, Full, Taken, words_of, Turn, TurnEnd, Ended, own_step, stage_at, consumed_step, turn_step, turn_by, turn_at, turn_from, inl, inr, cases_Bool}
+use Rattle.dp_semantics.proofs.Names.{◌≡◌, refl, sym, ap, ◌∙◌, append_assoc, ℕ, zero, suc, ◌<◌, ◌≤◌, ◌==◌, List, [], ◌∷◌, ◌++◌, ℤ, length, nat_le, Result, Ok}
+use Rattle.dp_semantics.proofs.Names.{Err, arith, leb-true, eq-eqb, append-nil, Word, Stmt, out-Stmt, Stmt-F, Program, Plan, WithLoads, Evaluated, Effect}
+use Rattle.dp_semantics.proofs.Names.{evaluated, Void, Full, Taken, words_of, Turn, TurnEnd, Ended, own_step, stage_at, consumed_step, turn_step, turn_by}
+use Rattle.dp_semantics.proofs.Names.{turn_at, turn_from, inl, inr, cases_Bool}
 use Rattle.dp_theorem.proofs.Stepping.{event_of}
 
 -- the words only grow
@@ -37,7 +40,8 @@ module _ (p : Program) (plan : Plan) (input : List ℤ) (s : ℕ) where
   grows_by go later c (Err why) g e q = absurd (cc)
 
   grows_at : (go : Turn → TurnEnd) → Growing go → (c : Turn) (to_do : List Stmt) (e : Ended) → turn_at p plan input s go c to_do ≡ Ok e → Grows c.own e.own
-  grows_at go later c [] e q = let same : record { own = c.own; cells = c.cells; closing = c.closing } ≡ e = cc in ([], ap (λ (d : Ended). d.own) (sym same) ∙ sym (append-nil c.own))
+  grows_at go later c [] e q = let same : record { own = c.own; cells = c.cells; closing = c.closing } ≡ e = cc in
+      ([], ap (λ (d : Ended). d.own) (sym same) ∙ sym (append-nil c.own))
   grows_at go later c (y ∷ ys) e q = grows_by go later c (turn_step p plan input s c y ys (out-Stmt y)) (grows_step c y ys (out-Stmt y)) e q
 
   turn_grows : (n : ℕ) → Growing (turn_from p plan input s n)
@@ -58,14 +62,16 @@ module _ (p : Program) (plan : Plan) (input : List ℤ) (s : ℕ) where
     pub room : length (c.own ++ words_of p plan (event_of h v)) ≤ plan.words
     pub grew : Grows (c.own ++ words_of p plan (event_of h v)) e.own
 
-  own_value : (n : ℕ) (c : Turn) (y : Stmt) (ys : List Stmt) (h : Stmt-F Stmt) (e : Ended) (r : Evaluated Effect) → evaluated p input c.cells h ≡ r → turn_by (turn_from p plan input s n) (own_step p plan c y ys h r) ≡ Ok e → Own c h e
+  own_value : (n : ℕ) (c : Turn) (y : Stmt) (ys : List Stmt) (h : Stmt-F Stmt) (e : Ended) (r : Evaluated Effect) → evaluated p input c.cells h ≡ r →
+      turn_by (turn_from p plan input s n) (own_step p plan c y ys h r) ≡ Ok e → Own c h e
   own_value n c y ys h e (Ok v) gave q = elim (cases_Bool (nat_le (length (c.own ++ words_of p plan (event_of h v))) plan.words)) [
     | inl fits ↦ record { v = v; gave = gave; room = leb-true _ _ fits; grew = turn_grows n _ e (rw fits at q) }
     | inr full ↦ let clash : Err Full ≡ Ok e = rw full at q in absurd (cc clash)
   ]
   own_value n c y ys h e (Err kind) gave q = absurd (cc)
 
-  pub own_back : (n : ℕ) (c : Turn) (y : Stmt) (ys : List Stmt) (h : Stmt-F Stmt) (e : Ended) → c.to_do ≡ y ∷ ys → out-Stmt y ≡ h → stage_at p plan h ≡ s → turn_from p plan input s n c ≡ Ok e → Own c h e
+  pub own_back : (n : ℕ) (c : Turn) (y : Stmt) (ys : List Stmt) (h : Stmt-F Stmt) (e : Ended) → c.to_do ≡ y ∷ ys → out-Stmt y ≡ h → stage_at p plan h ≡ s →
+      turn_from p plan input s n c ≡ Ok e → Own c h e
   unfolding turn_from
   own_back zero c y ys h e at o here q = absurd (cc)
   own_back (suc n) c y ys h e at o here q = own_value n c y ys h e (evaluated p input c.cells h) refl (rw (at, o, eq-eqb _ s here) at q)

@@ -1,5 +1,8 @@
 -- A turn's bound of steps never decides: each step adds a word of the plan's number, or takes one of the lists.
-use Rattle.dp_semantics.proofs.Names.{◌≡◌, refl, sym, ap, ◌∙◌, arith, length-append, ℕ, zero, suc, ◌+◌, ◌-◌, ◌<◌, ◌≤◌, ◌==◌, ◌++◌, List, [], ◌∷◌, length, ℤ, Ok, Err, Result, nat_le, leb-true, sum_by, slice_set, cases_lt, inl, inr, cases_Bool, Word, Stmt, Stmt-F, out-Stmt, Program, Plan, Evaluated, Event, Effect, site_of, evaluated, words_of, Full, Taken, taken_from, Void, Turn, TurnEnd, turned, turn_at, turn_begin, turn_by, turn_step, own_step, consumed, consumed_step, stage_at, words_left}
+use Rattle.dp_semantics.proofs.Names.{◌≡◌, refl, sym, ap, ◌∙◌, arith, length-append, ℕ, zero, suc, ◌+◌, ◌-◌, ◌<◌, ◌≤◌, ◌==◌, ◌++◌, List, [], ◌∷◌, length, ℤ, Ok}
+use Rattle.dp_semantics.proofs.Names.{Err, Result, nat_le, leb-true, sum_by, slice_set, cases_lt, inl, inr, cases_Bool, Word, Stmt, Stmt-F, out-Stmt, Program}
+use Rattle.dp_semantics.proofs.Names.{Plan, Evaluated, Event, Effect, site_of, evaluated, words_of, Full, Taken, taken_from, Void, Turn, TurnEnd, turned}
+use Rattle.dp_semantics.proofs.Names.{turn_at, turn_begin, turn_by, turn_step, own_step, consumed, consumed_step, stage_at, words_left}
 unfoldable use Rattle.dp_semantics.proofs.Names.{turn_from}
 use Rattle.dp_semantics.specs.TurnBound.{BoundNeverDecides}
 use Rattle.dp_semantics.proofs.Shorter.{lists_shorter, some_word, taken_shorter}
@@ -31,13 +34,15 @@ module _ (p : Program) (plan : Plan) (input : List ℤ) (s : ℕ) where
         own : List Word
         own = c.own ++ words_of p plan event
 
-    taken_left : (d : Turn) (r : Result Taken Void) → taken_from p head (words_left p plan c head) ≡ r → consumed_step p plan c x rest head r ≡ Ok d → Enough n d
+    taken_left : (d : Turn) (r : Result Taken Void) → taken_from p head (words_left p plan c head) ≡ r →
+        consumed_step p plan c x rest head r ≡ Ok d → Enough n d
     taken_left d (Err why) is e = absurd (cc e)
     taken_left d (Ok w) is e =
         let same : consumed p plan c x rest head w ≡ d = cc e in
         let fewer = lists_shorter c.lists (stage_at p plan head) w.rest (taken_shorter p head (words_left p plan c head) w is) in
         let own_is : length c.own ≡ length d.own = ap (λ (t : Turn). length t.own) same in
-        let lists_are : sum_by length (slice_set c.lists (stage_at p plan head - 1) w.rest) ≡ sum_by length d.lists = ap (λ (t : Turn). sum_by length t.lists) same in
+        let lists_are : sum_by length (slice_set c.lists (stage_at p plan head - 1) w.rest) ≡ sum_by length d.lists = ap
+        (λ (t : Turn). sum_by length t.lists) same in
         record { fits = omega (arith, enough.fits, own_is); left = omega (arith, enough.left, fewer, own_is, lists_are) }
 
     step_left : (d : Turn) → turn_step p plan input s c x rest head ≡ Ok d → Enough n d
@@ -46,7 +51,8 @@ module _ (p : Program) (plan : Plan) (input : List ℤ) (s : ℕ) where
       | inr q ↦ taken_left d (taken_from p head (words_left p plan c head)) refl (rw q at e)
     ]
 
-  same_on : (n : ℕ) (go more : Turn → TurnEnd) → ((d : Turn) → Enough n d → go d ≡ more d) → (c : Turn) → Enough (suc n) c → (xs : List Stmt) → turn_at p plan input s go c xs ≡ turn_at p plan input s more c xs
+  same_on : (n : ℕ) (go more : Turn → TurnEnd) → ((d : Turn) → Enough n d → go d ≡ more d) → (c : Turn) → Enough (suc n) c → (xs : List Stmt) →
+      turn_at p plan input s go c xs ≡ turn_at p plan input s more c xs
   same_on n go more same c enough [] = refl
   same_on n go more same c enough (x ∷ rest) = by (turn_step p plan input s c x rest (out-Stmt x)) refl
     where
@@ -63,6 +69,8 @@ module _ (p : Program) (plan : Plan) (input : List ℤ) (s : ℕ) where
 pub bound_idle : (p : Program) (plan : Plan) → BoundNeverDecides p plan
 bound_idle p plan input s zero cells lists many = absurd (omega (arith, many))
 bound_idle p plan input s (suc n) cells lists many = elim (cases_lt (plan.words + sum_by length lists) n) [
-  | inl more ↦ sym (one_more p plan input s n (turn_begin p plan s cells lists) (record { fits = omega arith; left = omega (arith, more) })) ∙ bound_idle p plan input s n cells lists more
-  | inr few ↦ let e : suc n ≡ plan.words + sum_by length lists + 1 = omega (arith, many, few) in ap (λ (k : ℕ). turn_from p plan input s k (turn_begin p plan s cells lists)) e
+  | inl more ↦ sym (one_more p plan input s n (turn_begin p plan s cells lists) (record { fits = omega arith; left = omega (arith, more) }))
+      ∙ bound_idle p plan input s n cells lists more
+  | inr few ↦ let e : suc n ≡ plan.words + sum_by length lists + 1 = omega (arith, many, few) in
+      ap (λ (k : ℕ). turn_from p plan input s k (turn_begin p plan s cells lists)) e
 ]

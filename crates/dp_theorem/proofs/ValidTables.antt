@@ -1,5 +1,6 @@
 -- The table of a valid plan of an inlined program is right.
-use Rattle.dp_semantics.proofs.Names.{◌≡◌, refl, sym, subst, true, List, [], ◌∷◌, nat_lt, nat_le, length, list_all, Program, Plan, Access, access_known, fits_plan, has_cell, stores_known, region_accesses, stage_of, and_parts, and_from}
+use Rattle.dp_semantics.proofs.Names.{◌≡◌, refl, sym, subst, true, List, [], ◌∷◌, nat_lt, nat_le, length, list_all, Program, Plan, Access, access_known}
+use Rattle.dp_semantics.proofs.Names.{fits_plan, has_cell, stores_known, region_accesses, stage_of, and_parts, and_from}
 use Rattle.dp_tree.specs.Inlined.{IsInlined}
 use Rattle.dp_plan.specs.CheckedTable.{IsTabled, is_staged}
 use Rattle.dp_plan.specs.Written.{plan_before_table}
@@ -20,4 +21,5 @@ pub valid_tabled : (p : Program) (q : Plan) → IsInlined p → ValidPlanTabled 
 valid_tabled p q inlined w written =
     let fits = subst (λ (u : Plan). fits_plan p u ≡ true) written.plan_is (valid_fits p q inlined w written) in
     let known = (and_parts _ _ (and_parts _ _ fits).1).0 in
-    subst (λ (u : Plan). IsTabled p u) (sym written.plan_is) (table_right p (plan_before_table p q.proved w) (known_staged p (plan_before_table p q.proved w) (region_accesses p (plan_before_table p q.proved w)) known))
+    subst (λ (u : Plan). IsTabled p u) (sym written.plan_is) (table_right p (plan_before_table p q.proved w) (known_staged p (plan_before_table p q.proved w)
+    (region_accesses p (plan_before_table p q.proved w)) known))

@@ -1,5 +1,10 @@
 -- A run through the text of one iteration: to its end, or to where it stops.
-use Rattle.dp_semantics.proofs.Names.{Break, not, ◌||◌, Option, list_any, is_zero, is_leaving, leaves, upto_leaving, behind_region, cleared_leaving, stored_by, after_effect, taken, taken_left, subst, cases_Bool, ◌≡◌, ◌⊎◌, inl, inr, refl, sym, ap, ◌∙◌, ℕ, zero, suc, ◌+◌, ◌<◌, Bool, true, false, if◌then◌else◌, List, [], ◌∷◌, ◌++◌, ℤ, length, Some, slice_get, Ok, Err, arith, FaultKind, Stmt, out-Stmt, Stmt-F, Region, Call, Program, Plan, WithLoads, Evaluated, Config, Event, Effect, Faulted, Stepped, followed, value_of, stored, evaluated, standing, cleared_at, step, Run, run_of, extended, is_region, stands_at_head, places, well_nested, and_parts, followed-append}
+use Rattle.dp_semantics.proofs.Names.{Break, not, ◌||◌, Option, list_any, is_zero, is_leaving, leaves, upto_leaving, behind_region, cleared_leaving, stored_by}
+use Rattle.dp_semantics.proofs.Names.{after_effect, taken, taken_left, subst, cases_Bool, ◌≡◌, ◌⊎◌, inl, inr, refl, sym, ap, ◌∙◌, ℕ, zero, suc, ◌+◌, ◌<◌, Bool}
+use Rattle.dp_semantics.proofs.Names.{true, false, if◌then◌else◌, List, [], ◌∷◌, ◌++◌, ℤ, length, Some, slice_get, Ok, Err, arith, FaultKind, Stmt, out-Stmt}
+use Rattle.dp_semantics.proofs.Names.{Stmt-F, Region, Call, Program, Plan, WithLoads, Evaluated, Config, Event, Effect, Faulted, Stepped, followed, value_of}
+use Rattle.dp_semantics.proofs.Names.{stored, evaluated, standing, cleared_at, step, Run, run_of, extended, is_region, stands_at_head, places, well_nested}
+use Rattle.dp_semantics.proofs.Names.{and_parts, followed-append}
 use Rattle.dp_semantics.proofs.Setting.{all_well, well_at, well_out, followed_has, all_joins}
 use Rattle.dp_theorem.proofs.Stepping.{event_of, well_parts}
 use Rattle.dp_theorem.proofs.Whole.{Goes, stays, goes}
@@ -41,8 +46,10 @@ module _ (p : Program) (plan : Plan) (input : List ℤ) (rest_of_run : List Stmt
   -- where the run stands then: behind the statements, behind the region that it left, or before it ends
   pub data Ends (left : ℕ) (events : List Event) (after : List Stmt) (cells : List ℤ) (stands : Config) : Type 0 where
     through : after ≡ [] → stands ≡ standing p rest_of_run cells → list_any is_leaving events ≡ false → Ends left events after cells stands
-    away : after ≡ [] → stands ≡ standing p (behind_region rest_of_run) (cleared_leaving p rest_of_run cells) → list_any is_leaving events ≡ true → ((more : List Event) → upto_leaving (events ++ more) ≡ events) → Ends left events after cells stands
-    halted : Stuck left after cells → stands ≡ standing p (after ++ rest_of_run) cells → list_any is_leaving events ≡ false → Ends left events after cells stands
+    away : after ≡ [] → stands ≡ standing p (behind_region rest_of_run) (cleared_leaving p rest_of_run cells) → list_any is_leaving events ≡ true →
+        ((more : List Event) → upto_leaving (events ++ more) ≡ events) → Ends left events after cells stands
+    halted : Stuck left after cells → stands ≡ standing p (after ++ rest_of_run) cells → list_any is_leaving events ≡ false →
+        Ends left events after cells stands
 
   -- the source's steps through the statements, as far as they go, with no start of the region on the way
   pub record Walk (m : ℕ) (to_do : List Stmt) (cells : List ℤ) : Type 0 where
@@ -55,7 +62,8 @@ module _ (p : Program) (plan : Plan) (input : List ℤ) (rest_of_run : List Stmt
     pub steps_are : m ≡ length events + left
     pub trace_is : (run_at m to_do cells).trace ≡ events ++ (run_of p input left stands).trace
     pub config_is : slice_get (run_at m to_do cells).configs (length events) ≡ Some stands
-    pub starts_are : (n : ℕ) → places (stands_at_head r) n (run_at m to_do cells).configs ≡ places (stands_at_head r) (n + length events) (run_of p input left stands).configs
+    pub starts_are : (n : ℕ) → places (stands_at_head r) n (run_at m to_do cells).configs ≡ places (stands_at_head r) (n + length events)
+        (run_of p input left stands).configs
     pub end_is : (run_at m to_do cells).end ≡ (run_of p input left stands).end
     pub ending : Ends left events after then_cells stands
 
@@ -76,10 +84,12 @@ module _ (p : Program) (plan : Plan) (input : List ℤ) (rest_of_run : List Stmt
   }
 
   -- an event before these that doesn't leave
-  ends_later : {left : ℕ} {events : List Event} {after : List Stmt} {cells : List ℤ} {stands : Config} (event : Event) → leaves event.effect ≡ false → Ends left events after cells stands → Ends left (event ∷ events) after cells stands
+  ends_later : {left : ℕ} {events : List Event} {after : List Stmt} {cells : List ℤ} {stands : Config} (event : Event) → leaves event.effect ≡ false →
+      Ends left events after cells stands → Ends left (event ∷ events) after cells stands
   ends_later {events = events} event stay (through e s none) = through e s (ap (λ (b : Bool). b || list_any is_leaving events) stay ∙ none)
   ends_later {events = events} event stay (away e s some upto) =
-      away e s (ap (λ (b : Bool). b || list_any is_leaving events) stay ∙ some) (λ more. ap (λ (b : Bool). event ∷ (if b then [] else upto_leaving (events ++ more))) stay ∙ ap (λ (es : List Event). event ∷ es) (upto more))
+      away e s (ap (λ (b : Bool). b || list_any is_leaving events) stay ∙ some)
+      (λ more. ap (λ (b : Bool). event ∷ (if b then [] else upto_leaving (events ++ more))) stay ∙ ap (λ (es : List Event). event ∷ es) (upto more))
   ends_later {events = events} event stay (halted q s none) = halted q s (ap (λ (b : Bool). b || list_any is_leaving events) stay ∙ none)
 
   -- well-nested statements have no region's locals to clear
@@ -87,9 +97,11 @@ module _ (p : Program) (plan : Plan) (input : List ℤ) (rest_of_run : List Stmt
   well_cleared [] behind cells w = refl
   well_cleared (x ∷ xs) behind cells w =
       let both = and_parts (well_nested p plan x) (all_well p plan xs) w in
-      ap (λ (o : Option ℕ). clear_one p o cells (cleared_leaving p (xs ++ behind) cells)) (well_number p plan (out-Stmt x) (sym (well_out p plan x) ∙ both.0)) ∙ well_cleared xs behind cells both.1
+      ap (λ (o : Option ℕ). clear_one p o cells (cleared_leaving p (xs ++ behind) cells)) (well_number p plan (out-Stmt x) (sym (well_out p plan x) ∙ both.0))
+      ∙ well_cleared xs behind cells both.1
 
-  stored_kept : (rest : List Stmt) (h : Stmt-F Stmt) (effect : Effect) (cells : List ℤ) → taken h (value_of effect) ≡ false → stored_by p rest h effect cells ≡ stored effect cells
+  stored_kept : (rest : List Stmt) (h : Stmt-F Stmt) (effect : Effect) (cells : List ℤ) → taken h (value_of effect) ≡ false →
+      stored_by p rest h effect cells ≡ stored effect cells
   stored_kept rest (Break site cond) effect cells t = by (is_zero (value_of effect)) t
     where
       by : (b : Bool) → not b ≡ false → (if b then stored effect cells else cleared_leaving p rest (stored effect cells)) ≡ stored effect cells
@@ -97,10 +109,12 @@ module _ (p : Program) (plan : Plan) (input : List ℤ) (rest_of_run : List Stmt
       by false t = absurd (cc)
   stored_kept rest _ effect cells t = refl
 
-  stored_left : (rest : List Stmt) (h : Stmt-F Stmt) (effect : Effect) (cells : List ℤ) → taken h (value_of effect) ≡ true → stored_by p rest h effect cells ≡ cleared_leaving p rest (stored effect cells)
+  stored_left : (rest : List Stmt) (h : Stmt-F Stmt) (effect : Effect) (cells : List ℤ) → taken h (value_of effect) ≡ true →
+      stored_by p rest h effect cells ≡ cleared_leaving p rest (stored effect cells)
   stored_left rest (Break site cond) effect cells t = by (is_zero (value_of effect)) t
     where
-      by : (b : Bool) → not b ≡ true → (if b then stored effect cells else cleared_leaving p rest (stored effect cells)) ≡ cleared_leaving p rest (stored effect cells)
+      by : (b : Bool) → not b ≡ true → (if b then stored effect cells else cleared_leaving p rest (stored effect cells)) ≡ cleared_leaving p rest
+          (stored effect cells)
       by true t = absurd (cc)
       by false t = refl
   stored_left rest _ effect cells t = absurd (cc)
@@ -120,7 +134,8 @@ module _ (p : Program) (plan : Plan) (input : List ℤ) (rest_of_run : List Stmt
 
     spent : Walk 0 (x ∷ rest) cells
     unfolding run_of
-    spent = here 0 (x ∷ rest) cells (halted (record { x = x; rest = rest; after_is = refl; why = inl refl; no_trace = refl; no_start = λ n. skipped n []; stops = refl }) refl refl)
+    spent = here 0 (x ∷ rest) cells
+        (halted (record { x = x; rest = rest; after_is = refl; why = inl refl; no_trace = refl; no_start = λ n. skipped n []; stops = refl }) refl refl)
 
     faulted : (m : ℕ) (kind : FaultKind) → evaluated p input cells (out-Stmt x) ≡ Err kind → Walk (suc m) (x ∷ rest) cells
     faulted m kind e =
@@ -137,15 +152,18 @@ module _ (p : Program) (plan : Plan) (input : List ℤ) (rest_of_run : List Stmt
         }) refl refl)
 
     -- the run's first step
-    first_step : (m : ℕ) (v : WithLoads Effect) → evaluated p input cells (out-Stmt x) ≡ Ok v → (next : Config) → after_effect p x (rest ++ rest_of_run) cells (out-Stmt x) v.value ≡ next →
+    first_step : (m : ℕ) (v : WithLoads Effect) → evaluated p input cells (out-Stmt x) ≡ Ok v → (next : Config) →
+        after_effect p x (rest ++ rest_of_run) cells (out-Stmt x) v.value ≡ next →
         run_of p input (suc m) c ≡ extended (suc m) c (event_of (out-Stmt x) v) (run_of p input m next)
     first_step m v e next is = run_step p input m c (Stepped (event_of (out-Stmt x) v) next)
-        (ap (step p input) kept ∙ step_on p input x (rest ++ rest_of_run) cells v (well_step p plan (out-Stmt x) head) e ∙ ap (λ (d : Config). Stepped (event_of (out-Stmt x) v) d) is)
+        (ap (step p input) kept ∙ step_on p input x (rest ++ rest_of_run) cells v (well_step p plan (out-Stmt x) head) e
+        ∙ ap (λ (d : Config). Stepped (event_of (out-Stmt x) v) d) is)
 
     left_is : (v : WithLoads Effect) → evaluated p input cells (out-Stmt x) ≡ Ok v → leaves v.value ≡ taken (out-Stmt x) (value_of v.value)
     left_is v e = leaves_taken p input x rest cells v (well_step p plan (out-Stmt x) head) e
 
-    stepped : (m : ℕ) (v : WithLoads Effect) → evaluated p input cells (out-Stmt x) ≡ Ok v → taken (out-Stmt x) (value_of v.value) ≡ false → Walk m (followed x rest (out-Stmt x) (value_of v.value)) (stored v.value cells) → Walk (suc m) (x ∷ rest) cells
+    stepped : (m : ℕ) (v : WithLoads Effect) → evaluated p input cells (out-Stmt x) ≡ Ok v → taken (out-Stmt x) (value_of v.value) ≡ false →
+        Walk m (followed x rest (out-Stmt x) (value_of v.value)) (stored v.value cells) → Walk (suc m) (x ∷ rest) cells
     stepped m v e t w = record {
       events = event_of (out-Stmt x) v ∷ w.events;
       after = w.after;
@@ -156,34 +174,42 @@ module _ (p : Program) (plan : Plan) (input : List ℤ) (rest_of_run : List Stmt
       steps_are = omega (arith, w.steps_are);
       trace_is = ap (λ (run : Run). run.trace) whole ∙ ap (λ (es : List Event). event_of (out-Stmt x) v ∷ es) w.trace_is;
       config_is = ap (λ (run : Run). slice_get run.configs (suc (length w.events))) whole ∙ w.config_is;
-      starts_are = λ n. ap (λ (run : Run). places (stands_at_head r) n run.configs) whole ∙ skipped n (run_at m (followed x rest (out-Stmt x) (value_of v.value)) (stored v.value cells)).configs ∙ w.starts_are (suc n) ∙ further n;
+      starts_are = λ n. ap (λ (run : Run). places (stands_at_head r) n run.configs) whole
+          ∙ skipped n (run_at m (followed x rest (out-Stmt x) (value_of v.value)) (stored v.value cells)).configs ∙ w.starts_are (suc n) ∙ further n;
       end_is = ap (λ (run : Run). run.end) whole ∙ w.end_is;
       ending = ends_later (event_of (out-Stmt x) v) (left_is v e ∙ t) w.ending;
     }
       where
-        whole : run_of p input (suc m) c ≡ extended (suc m) c (event_of (out-Stmt x) v) (run_at m (followed x rest (out-Stmt x) (value_of v.value)) (stored v.value cells))
+        whole : run_of p input (suc m) c ≡ extended (suc m) c (event_of (out-Stmt x) v) (run_at m (followed x rest (out-Stmt x) (value_of v.value))
+            (stored v.value cells))
         whole = first_step m v e (standing p (followed x rest (out-Stmt x) (value_of v.value) ++ rest_of_run) (stored v.value cells))
-            (ap (λ (next : List Stmt). standing p next (stored_by p (rest ++ rest_of_run) (out-Stmt x) v.value cells)) (followed-append x rest rest_of_run (out-Stmt x) (value_of v.value) t)
+            (ap (λ (next : List Stmt). standing p next (stored_by p (rest ++ rest_of_run) (out-Stmt x) v.value cells))
+            (followed-append x rest rest_of_run (out-Stmt x) (value_of v.value) t)
             ∙ ap (standing p (followed x rest (out-Stmt x) (value_of v.value) ++ rest_of_run)) (stored_kept (rest ++ rest_of_run) (out-Stmt x) v.value cells t))
 
-        further : (n : ℕ) → places (stands_at_head r) (suc n + length w.events) (run_of p input w.left w.stands).configs ≡ places (stands_at_head r) (n + suc (length w.events)) (run_of p input w.left w.stands).configs
-        further n = let same : suc n + length w.events ≡ n + suc (length w.events) = omega arith in ap (λ (i : ℕ). places (stands_at_head r) i (run_of p input w.left w.stands).configs) same
+        further : (n : ℕ) → places (stands_at_head r) (suc n + length w.events) (run_of p input w.left w.stands).configs ≡ places (stands_at_head r)
+            (n + suc (length w.events)) (run_of p input w.left w.stands).configs
+        further n = let same : suc n + length w.events ≡ n + suc (length w.events) = omega arith in
+            ap (λ (i : ℕ). places (stands_at_head r) i (run_of p input w.left w.stands).configs) same
 
     -- a break that is taken
-    goes_away : all_well p plan rest ≡ true → (m : ℕ) (v : WithLoads Effect) → evaluated p input cells (out-Stmt x) ≡ Ok v → taken (out-Stmt x) (value_of v.value) ≡ true → Walk (suc m) (x ∷ rest) cells
+    goes_away : all_well p plan rest ≡ true → (m : ℕ) (v : WithLoads Effect) → evaluated p input cells (out-Stmt x) ≡ Ok v →
+        taken (out-Stmt x) (value_of v.value) ≡ true → Walk (suc m) (x ∷ rest) cells
     goes_away well m v e t = record {
       events = event_of (out-Stmt x) v ∷ [];
       after = [];
       then_cells = stored v.value cells;
       left = m;
       stands = there;
-      path = goes e (subst (λ (ys : List Stmt). Goes p input ys (stored v.value cells) [] [] (stored v.value cells)) (sym (taken_left x rest (out-Stmt x) (value_of v.value) t ∙ well_left p plan rest well)) stays);
+      path = goes e (subst (λ (ys : List Stmt). Goes p input ys (stored v.value cells) [] [] (stored v.value cells))
+          (sym (taken_left x rest (out-Stmt x) (value_of v.value) t ∙ well_left p plan rest well)) stays);
       steps_are = omega arith;
       trace_is = ap (λ (run : Run). run.trace) whole;
       config_is = ap (λ (run : Run). slice_get run.configs 1) whole ∙ run_first p input m there;
       starts_are = λ n. ap (λ (run : Run). places (stands_at_head r) n run.configs) whole ∙ skipped n (run_of p input m there).configs ∙ further n;
       end_is = ap (λ (run : Run). run.end) whole;
-      ending = away refl refl (ap (λ (b : Bool). b || false) leaving) (λ more. ap (λ (b : Bool). event_of (out-Stmt x) v ∷ (if b then [] else upto_leaving more)) leaving);
+      ending = away refl refl (ap (λ (b : Bool). b || false) leaving)
+          (λ more. ap (λ (b : Bool). event_of (out-Stmt x) v ∷ (if b then [] else upto_leaving more)) leaving);
     }
       where
         there : Config
@@ -192,19 +218,24 @@ module _ (p : Program) (plan : Plan) (input : List ℤ) (rest_of_run : List Stmt
         leaving : leaves v.value ≡ true
         leaving = left_is v e ∙ t
 
-        whole : run_of p input (suc m) c ≡ extended (suc m) c (event_of (out-Stmt x) v) (run_of p input m (standing p (behind_region rest_of_run) (cleared_leaving p rest_of_run (stored v.value cells))))
+        whole : run_of p input (suc m) c ≡ extended (suc m) c (event_of (out-Stmt x) v)
+            (run_of p input m (standing p (behind_region rest_of_run) (cleared_leaving p rest_of_run (stored v.value cells))))
         whole = first_step m v e (standing p (behind_region rest_of_run) (cleared_leaving p rest_of_run (stored v.value cells)))
-            (ap (λ (next : List Stmt). standing p next (stored_by p (rest ++ rest_of_run) (out-Stmt x) v.value cells)) (taken_left x (rest ++ rest_of_run) (out-Stmt x) (value_of v.value) t ∙ well_left_to p plan rest rest_of_run well)
-            ∙ ap (standing p (behind_region rest_of_run)) (stored_left (rest ++ rest_of_run) (out-Stmt x) v.value cells t ∙ well_cleared rest rest_of_run (stored v.value cells) well))
+            (ap (λ (next : List Stmt). standing p next (stored_by p (rest ++ rest_of_run) (out-Stmt x) v.value cells))
+            (taken_left x (rest ++ rest_of_run) (out-Stmt x) (value_of v.value) t ∙ well_left_to p plan rest rest_of_run well)
+            ∙ ap (standing p (behind_region rest_of_run)) (stored_left (rest ++ rest_of_run) (out-Stmt x) v.value cells t
+            ∙ well_cleared rest rest_of_run (stored v.value cells) well))
 
-        further : (n : ℕ) → places (stands_at_head r) (suc n) (run_of p input m there).configs ≡ places (stands_at_head r) (n + 1) (run_of p input m there).configs
+        further : (n : ℕ) → places (stands_at_head r) (suc n) (run_of p input m there).configs ≡ places (stands_at_head r) (n + 1)
+            (run_of p input m there).configs
         further n = let same : suc n ≡ n + 1 = omega arith in ap (λ (i : ℕ). places (stands_at_head r) i (run_of p input m there).configs) same
 
   -- The run goes through well-nested statements to their end, or it ends within.
   pub walk : (m : ℕ) (to_do : List Stmt) (cells : List ℤ) → all_well p plan to_do ≡ true → Walk m to_do cells
   walk m [] cells w = here m [] cells (through refl refl refl)
   walk zero (x ∷ rest) cells w = spent x rest cells (sym (well_out p plan x) ∙ (and_parts (well_nested p plan x) (all_well p plan rest) w).0)
-  walk (suc m) (x ∷ rest) cells w = by (evaluated p input cells (out-Stmt x)) refl (λ v. walk m (followed x rest (out-Stmt x) (value_of v.value)) (stored v.value cells) (onward v))
+  walk (suc m) (x ∷ rest) cells w =
+      by (evaluated p input cells (out-Stmt x)) refl (λ v. walk m (followed x rest (out-Stmt x) (value_of v.value)) (stored v.value cells) (onward v))
     where
       parts : (well_nested p plan x ≡ true) × (all_well p plan rest ≡ true)
       parts = and_parts (well_nested p plan x) (all_well p plan rest) w
@@ -213,8 +244,14 @@ module _ (p : Program) (plan : Plan) (input : List ℤ) (rest_of_run : List Stmt
       head = sym (well_out p plan x) ∙ parts.0
 
       onward : (v : WithLoads Effect) → all_well p plan (followed x rest (out-Stmt x) (value_of v.value)) ≡ true
-      onward v = followed_has (λ xs. all_well p plan xs ≡ true) (all_joins (well_nested p plan)) x rest (out-Stmt x) (value_of v.value) w parts.1 (well_parts p plan (out-Stmt x) head)
+      onward v = followed_has (λ xs. all_well p plan xs ≡ true) (all_joins (well_nested p plan)) x rest (out-Stmt x) (value_of v.value) w parts.1
+          (well_parts p plan (out-Stmt x) head)
 
-      by : (u : Evaluated Effect) → evaluated p input cells (out-Stmt x) ≡ u → ((v : WithLoads Effect) → Walk m (followed x rest (out-Stmt x) (value_of v.value)) (stored v.value cells)) → Walk (suc m) (x ∷ rest) cells
-      by (Ok v) e go = elim (cases_Bool (taken (out-Stmt x) (value_of v.value))) [ inl t ↦ goes_away x rest cells head parts.1 m v e t | inr t ↦ stepped x rest cells head m v e t (go v) ]
+      by : (u : Evaluated Effect) → evaluated p input cells (out-Stmt x) ≡ u →
+          ((v : WithLoads Effect) → Walk m (followed x rest (out-Stmt x) (value_of v.value)) (stored v.value cells)) → Walk (suc m) (x ∷ rest) cells
+      by (Ok v) e go = elim (cases_Bool (taken (out-Stmt x) (value_of v.value))) [
+        | inl t ↦ goes_away x rest cells head parts.1 m v e t
+        | inr t ↦
+            stepped x rest cells head m v e t (go v)
+      ]
       by (Err kind) e go = faulted x rest cells head m kind e

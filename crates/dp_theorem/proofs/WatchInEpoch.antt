@@ -25,11 +25,14 @@ module _ {k : Epoch} (h : History k) where
       let here = ready h n before in
       let there = ready h (suc n) gone in
       let walked = walk_is ok (numbered h.first n) 0 [] (watch_at n) here.at (gone n (omega arith)).makes.path (watches_at n before) in
-      watches_onward ok (numbered h.first n) (past_at h.first events (suc n)) _ (watched_all program plan (events n) (watch_at n)) h.clean_base there.before walked.watches
+      watches_onward ok (numbered h.first n) (past_at h.first events (suc n)) _ (watched_all program plan (events n) (watch_at n)) h.clean_base
+      there.before walked.watches
 
   -- The walk from there finds the first of the iteration's events that fails, and else what follows them.
-  pub cause_is : (n m : ℕ) (made : List Event) (after : List Stmt) (then_cells : List ℤ) → Gone h n → Goes program input (turn_of ok.accepted) (memory n) made after then_cells →
+  pub cause_is : (n m : ℕ) (made : List Event) (after : List Stmt) (then_cells : List ℤ) → Gone h n →
+      Goes program input (turn_of ok.accepted) (memory n) made after then_cells →
       cause_walk program plan input (length made + m) (watch_at n) (turn_of ok.accepted) (memory n) ≡
-      option_or (first_cause program plan base (numbered h.first n) (past_at h.first events n) [] made) (cause_walk program plan input m (watched_all program plan made (watch_at n)) after then_cells)
+      option_or (first_cause program plan base (numbered h.first n) (past_at h.first events n) [] made)
+      (cause_walk program plan input m (watched_all program plan made (watch_at n)) after then_cells)
   cause_is n m made after then_cells gone path =
       (walk_is ok (numbered h.first n) m [] (watch_at n) (ready h n gone).at path (watches_at n gone)).is

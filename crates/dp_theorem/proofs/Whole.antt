@@ -1,10 +1,15 @@
 -- A whole iteration: the turns of the stages, and the judgement on their words.
-use Rattle.dp_semantics.proofs.Names.{◌≡◌, refl, sym, ap, ◌∙◌, subst, ℕ, suc, ◌+◌, ◌-◌, ◌<◌, ◌≤◌, Bool, true, false, ◌&&◌, List, [], ◌∷◌, ◌++◌, ℤ, length, map, nat_le, arith, sum_by, le-leb, is_some, Ok, append-nil, list_all, Word, Stmt, outs-If, Region, Program, Plan, Event, Access, stage_of, region_statement, Past, all_agree, event_as_assumed, pushed, assumed_in, project_all, word_list, Turn, TurnEnd, Ended, turn_at, turn_from, turn_begin, stage_run, Epoch, Agreed, Clean, judge_lists, last, none_earlier, well_nested, effect_in, site_in, and_from, or-true}
+use Rattle.dp_semantics.proofs.Names.{◌≡◌, refl, sym, ap, ◌∙◌, subst, ℕ, suc, ◌+◌, ◌-◌, ◌<◌, ◌≤◌, Bool, true, false, ◌&&◌, List, [], ◌∷◌, ◌++◌, ℤ, length, map}
+use Rattle.dp_semantics.proofs.Names.{nat_le, arith, sum_by, le-leb, is_some, Ok, append-nil, list_all, Word, Stmt, outs-If, Region, Program, Plan, Event}
+use Rattle.dp_semantics.proofs.Names.{Access, stage_of, region_statement, Past, all_agree, event_as_assumed, pushed, assumed_in, project_all, word_list, Turn}
+use Rattle.dp_semantics.proofs.Names.{TurnEnd, Ended, turn_at, turn_from, turn_begin, stage_run, Epoch, Agreed, Clean, judge_lists, last, none_earlier}
+use Rattle.dp_semantics.proofs.Names.{well_nested, effect_in, site_in, and_from, or-true}
 pub use Rattle.dp_theorem.proofs.Memory.{AllBefore, pushed_before, before_later, Cleared, sees_next, sees_replicated, clear-at, clear-other, clear-still}
 pub use Rattle.dp_theorem.proofs.Lockstep.{words_through, closing_after, stands_after, Goes, stays, goes, lockstep, Through}
 use Rattle.dp_tree.specs.declared.Stmt.TheVariants as tree
 pub use Rattle.dp_semantics.proofs.Setting.{turn_of}
-use Rattle.dp_semantics.proofs.Setting.{Before, size, Sound, Accepted, Fit, Known, Each, each_map, each_join, all_make, accesses_all, all_well, accesses_at, accesses_out, well_at, well_out, if_rule, project_at, project_out}
+use Rattle.dp_semantics.proofs.Setting.{Before, size, Sound, Accepted, Fit, Known, Each, each_map, each_join, all_make, accesses_all, all_well, accesses_at}
+use Rattle.dp_semantics.proofs.Setting.{accesses_out, well_at, well_out, if_rule, project_at, project_out}
 use Rattle.dp_theorem.proofs.Stepping.{InStep, reached, Sees, Stands}
 use Rattle.dp_theorem.proofs.Judging.{judge_lockstep, judge_ends, JudgedThrough}
 use Rattle.dp_theorem.proofs.Backward.{AllRunning, Agreeing, judge_back}
@@ -14,10 +19,12 @@ module _ {p : Program} {plan : Plan} (a : Accepted p plan) where
   region_head = Region plan.region a.site a.cond a.body
 
   pub sound_parts : Each (Sound p plan) (accesses_at region_head ++ [])
-  sound_parts = subst (λ (xs : List Access). Each (Sound p plan) xs) (ap accesses_all a.region ∙ ap (λ xs. xs ++ []) (accesses_out a.statement ∙ ap accesses_at a.is)) a.sound
+  sound_parts = subst (λ (xs : List Access). Each (Sound p plan) xs) (ap accesses_all a.region ∙ ap (λ xs. xs ++ []) (accesses_out a.statement
+      ∙ ap accesses_at a.is)) a.sound
 
   pub turn_sound : Each (Sound p plan) (accesses_all (turn_of a))
-  turn_sound = subst (λ (xs : List Access). Each (Sound p plan) xs) (sym (ap (λ xs. xs ++ []) (accesses_out (tree.If a.site a.cond a.body []) ∙ ap accesses_at (outs-If a.site a.cond a.body []))))
+  turn_sound = subst (λ (xs : List Access). Each (Sound p plan) xs)
+      (sym (ap (λ xs. xs ++ []) (accesses_out (tree.If a.site a.cond a.body []) ∙ ap accesses_at (outs-If a.site a.cond a.body []))))
       (each_join (Sound p plan) (accesses_at region_head ++ []) [] sound_parts tt)
 
   one_first : stage_of p plan a.site.0 ≡ 1
@@ -26,11 +33,13 @@ module _ {p : Program} {plan : Plan} (a : Accepted p plan) where
   pub turn_well : all_well p plan (turn_of a) ≡ true
   turn_well = and_from (well_nested p plan (tree.If a.site a.cond a.body [])) true
       (well_out p plan (tree.If a.site a.cond a.body []) ∙ ap (well_at p plan) (outs-If a.site a.cond a.body [])
-      ∙ and_from (if_rule p plan a.site.0 (accesses_all a.body ++ [])) (all_well p plan a.body && true) ruled (and_from (all_well p plan a.body) true a.well refl)) refl
+      ∙ and_from (if_rule p plan a.site.0 (accesses_all a.body ++ [])) (all_well p plan a.body && true) ruled
+      (and_from (all_well p plan a.body) true a.well refl)) refl
     where
       early : none_earlier p plan a.site.0 (accesses_all a.body ++ []) ≡ true
       early = all_make (λ u. nat_le (stage_of p plan a.site.0) (stage_of p plan u.site)) (accesses_all a.body ++ [])
-          (each_map (Sound p plan) (λ u. nat_le (stage_of p plan a.site.0) (stage_of p plan u.site) ≡ true) (λ u s. le-leb _ _ (omega (arith, one_first, s.staged))) (accesses_all a.body ++ []) sound_parts.1)
+          (each_map (Sound p plan) (λ u. nat_le (stage_of p plan a.site.0) (stage_of p plan u.site) ≡ true)
+          (λ u s. le-leb _ _ (omega (arith, one_first, s.staged))) (accesses_all a.body ++ []) sound_parts.1)
 
       ruled : if_rule p plan a.site.0 (accesses_all a.body ++ []) ≡ true
       ruled = rw early (or-true (is_some (assumed_in plan.assume a.site.0)))
@@ -43,7 +52,8 @@ module _ {p : Program} {plan : Plan} (a : Accepted p plan) where
       ∙ sym (project_out p plan s (tree.If a.site a.cond a.body []) ∙ ap (project_at p plan s) (outs-If a.site a.cond a.body [])
       ∙ reached p plan s a.site.0 (tree.If a.site a.cond (project_all p plan s a.body) [] ∷ []) _ (omega (arith, one_first, real))))
 
-ends_at : (p : Program) (plan : Plan) (input : List ℤ) (s n : ℕ) (c : Turn) → c.to_do ≡ [] → turn_from p plan input s (suc n) c ≡ Ok (record { own = c.own; cells = c.cells; closing = c.closing })
+ends_at : (p : Program) (plan : Plan) (input : List ℤ) (s n : ℕ) (c : Turn) → c.to_do ≡ [] →
+    turn_from p plan input s (suc n) c ≡ Ok (record { own = c.own; cells = c.cells; closing = c.closing })
 unfolding turn_from
 ends_at p plan input s n c e = ap (turn_at p plan input s (turn_from p plan input s n) c) e
 
@@ -57,7 +67,8 @@ module _ {k : Epoch} (ok : Fit k) (i : ℕ) (earlier : List Past) where
   text = turn_of ok.accepted
 
   -- the source stands at the iteration's start
-  pub stands_at_start : (cells : List ℤ) → Each (Known k) earlier → Sees k (last plan) i earlier cells → length cells ≡ size program → Before program input plan.region text i earlier cells → Stands k i text earlier cells
+  pub stands_at_start : (cells : List ℤ) → Each (Known k) earlier → Sees k (last plan) i earlier cells → length cells ≡ size program →
+      Before program input plan.region text i earlier cells → Stands k i text earlier cells
   stands_at_start cells known sees size_is chain = record {
     well = turn_well ok.accepted;
     sound = turn_sound ok.accepted;
@@ -73,7 +84,8 @@ module _ {k : Epoch} (ok : Fit k) (i : ℕ) (earlier : List Past) where
     pub sees : Sees k s i earlier cells
     pub size_is : length cells ≡ size program
 
-  starts : (s : ℕ) → 0 < s → (cells : List ℤ) → Fresh s cells → (lists : List (List Word)) → s ≤ suc (length lists) → InStep k i s text earlier (turn_begin program plan s cells lists)
+  starts : (s : ℕ) → 0 < s → (cells : List ℤ) → Fresh s cells → (lists : List (List Word)) → s ≤ suc (length lists) →
+      InStep k i s text earlier (turn_begin program plan s cells lists)
   starts s real cells fresh lists wide = record { to_do_is = turn_program ok.accepted s real; sees = fresh.sees; size_is = fresh.size_is; wide = wide }
 
   -- the source makes the whole iteration from here, in agreement with the plan
@@ -109,7 +121,8 @@ module _ {k : Epoch} (ok : Fit k) (i : ℕ) (earlier : List Past) where
     pub within : length events ≤ n
 
   module _ (cells : List ℤ) (at : Stands k i text earlier cells) where
-    pub stage_whole : (s : ℕ) → 0 < s → s < last plan → (events : List Event) → Makes cells events → (mine : List ℤ) → Fresh s mine → (lists : List (List Word)) → ((t : ℕ) → 0 < t → t < s → word_list lists t ≡ words_through program plan t events) →
+    pub stage_whole : (s : ℕ) → 0 < s → s < last plan → (events : List Event) → Makes cells events → (mine : List ℤ) → Fresh s mine →
+        (lists : List (List Word)) → ((t : ℕ) → 0 < t → t < s → word_list lists t ≡ words_through program plan t events) →
         s ≤ suc (length lists) → TurnIs s events (stage_run program plan input s mine lists)
     stage_whole s real high events m mine fresh lists are wide = record {
       then_cells = r.turn.cells;
@@ -130,12 +143,15 @@ module _ {k : Epoch} (ok : Fit k) (i : ℕ) (earlier : List Past) where
         steps : plan.words + sum_by length lists + 1 ≡ r.steps + suc spare
         steps = omega (arith, r.paid, ap length r.own, m.fits s real high)
 
-    starts_judging : (lists : List (List Word)) → last plan ≤ suc (length lists) → InStep k i (last plan) text earlier (turn_begin program plan (last plan) cells lists)
+    starts_judging : (lists : List (List Word)) → last plan ≤ suc (length lists) →
+        InStep k i (last plan) text earlier (turn_begin program plan (last plan) cells lists)
     starts_judging lists wide = starts (last plan) (omega arith) cells (record { sees = at.sees; size_is = at.size_is }) lists wide
 
     -- The judgement of such an iteration is Clean, with the source's effects.
-    pub judge_whole : (n : ℕ) (events : List Event) → Makes cells events → length events ≤ n → (lists : List (List Word)) → ((t : ℕ) → 0 < t → t < last plan → word_list lists t ≡ words_through program plan t events) → last plan ≤ suc (length lists) →
-        judge_lists program plan n cells lists ≡ Clean (record { effects = map effect_in events; sites = map site_in events; closing = closing_after program plan false events })
+    pub judge_whole : (n : ℕ) (events : List Event) → Makes cells events → length events ≤ n → (lists : List (List Word)) →
+        ((t : ℕ) → 0 < t → t < last plan → word_list lists t ≡ words_through program plan t events) → last plan ≤ suc (length lists) →
+        judge_lists program plan n cells lists ≡ Clean
+        (record { effects = map effect_in events; sites = map site_in events; closing = closing_after program plan false events })
     judge_whole n events m within lists are wide =
         r.runs n (n - length events) (omega (arith, within)) ∙ judge_ends program plan (n - length events) r.judging r.in_step.to_do_is
         ∙ ap (λ (effects : _). Clean (record { effects = effects; sites = r.judging.sites; closing = r.judging.turn.closing })) r.effects
@@ -143,10 +159,13 @@ module _ {k : Epoch} (ok : Fit k) (i : ℕ) (earlier : List Past) where
         ∙ ap (λ (closing : Bool). Clean (record { effects = map effect_in events; sites = map site_in events; closing = closing })) r.closing
       where
         r : JudgedThrough k i [] earlier events (record { turn = turn_begin program plan (last plan) cells lists; effects = []; sites = [] })
-        r = judge_lockstep ok at m.path m.told none_left (record { turn = turn_begin program plan (last plan) cells lists; effects = []; sites = [] }) (starts_judging lists wide)
+        r = judge_lockstep ok at m.path m.told none_left (record { turn = turn_begin program plan (last plan) cells lists; effects = []; sites = [] })
+            (starts_judging lists wide)
             (λ t low up. are t low up ∙ sym (append-nil (words_through program plan t events)))
 
-    pub judge_whole_back : (n : ℕ) (lists : List (List Word)) → last plan ≤ suc (length lists) → ((s : ℕ) → 0 < s → s < last plan → TurnEnds s (word_list lists)) → (verdict : Agreed) → judge_lists program plan n cells lists ≡ Clean verdict → MadeWithin cells n
+    pub judge_whole_back : (n : ℕ) (lists : List (List Word)) → last plan ≤ suc (length lists) →
+        ((s : ℕ) → 0 < s → s < last plan → TurnEnds s (word_list lists)) → (verdict : Agreed) →
+        judge_lists program plan n cells lists ≡ Clean verdict → MadeWithin cells n
     judge_whole_back n lists wide turns verdict e = record {
       events = back.events;
       makes = record { then_cells = back.then_cells; path = back.path; agree = back.agree; told = back.told; fits = back.fits };
@@ -166,4 +185,5 @@ module _ {k : Epoch} (ok : Fit k) (i : ℕ) (earlier : List Past) where
         }
 
         back : Agreeing k i text earlier cells lists running n
-        back = judge_back ok n text earlier cells at (record { turn = turn_begin program plan (last plan) cells lists; effects = []; sites = [] }) running verdict (starts_judging lists wide) e
+        back = judge_back ok n text earlier cells at (record { turn = turn_begin program plan (last plan) cells lists; effects = []; sites = [] }) running
+            verdict (starts_judging lists wide) e

@@ -121,7 +121,8 @@ pub fn long_is_unclean(p: &Program, plan: &Plan)
     ensures { LongIsUnclean p.now plan.now }
 {}
 
-/// A run may be saved before an iteration and gone on with from there: an epoch begins there, nothing before it changes, and its report follows from those of the pieces.
+/// A run may be saved before an iteration and gone on with from there: an epoch begins there, nothing before it changes, and its report follows from those of
+/// the pieces.
 pub fn reports_go_on(p: &Program, plan: &Plan)
     ensures begins { BeginsThere p.now plan.now }
     ensures before { LaterChangesNothing p.now plan.now }

@@ -12,8 +12,8 @@ abbrev pub lexemes_code : Coded (List Lexeme)
 lexemes_code = coded_list (code_by (TokenKind × (List ℕ × ℕ)) (coded× kinds.the_row.coded (coded× (coded_list coded_ℕ) coded_ℕ))
     (λ t. (t.kind, (t.text, t.line))) (λ p. record { kind = p.0; text = p.1.0; line = p.1.1 }) (λ _. refl))
 
-abbrev pub left_of : Inside → List Lexeme
-left_of t = map lexeme t.left.now
+abbrev pub tokens_left : Inside → List Lexeme
+tokens_left t = map lexeme t.left.now
 
 -- the symbol that comes next is known
 abbrev pub KnowsNext : Inside → Type 0

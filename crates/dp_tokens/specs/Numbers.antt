@@ -19,16 +19,16 @@ value_by true digits = number_value digits
 value_by false digits = None
 
 -- the number that comes next, if one does
-unfoldable pub next_number : List Lexeme → Option ℤ
-next_number [] = None
-next_number (t ∷ ts) = value_by (same_symbol (symbol t) Number) t.text
+unfoldable pub number_in_front : List Lexeme → Option ℤ
+number_in_front [] = None
+number_in_front (t ∷ ts) = value_by (same_symbol (symbol t) Number) t.text
 
 abbrev pub number_by : Option ℤ → Parser ℤ
 number_by None = refuse
 number_by (Some z) = λ ts. Ok (z, rest ts)
 
 unfoldable pub number : Parser ℤ
-number = λ ts. number_by (next_number ts) ts
+number = λ ts. number_by (number_in_front ts) ts
 
 abbrev pub zero_by : Option ℤ → Bool
 zero_by None = false
@@ -36,7 +36,7 @@ zero_by (Some z) = is_zero z
 
 -- whether the number 0 comes next
 unfoldable pub sees_zero : List Lexeme → Bool
-sees_zero ts = zero_by (next_number ts)
+sees_zero ts = zero_by (number_in_front ts)
 
 -- the number with its sign turned
 unfoldable pub negated : ℤ → Option ℤ

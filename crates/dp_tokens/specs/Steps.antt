@@ -18,13 +18,13 @@ Outcome A = Result (A × List Lexeme) (List Lexeme)
 abbrev pub Parser : Type 0 → Type 0
 Parser A = List Lexeme → Outcome A
 
-abbrev pub and_then : {A B : Type 0} → Outcome A → (A → Parser B) → Outcome B
-and_then (Ok p) f = f p.0 p.1
-and_then (Err left) f = Err left
+abbrev pub parse_then : {A B : Type 0} → Outcome A → (A → Parser B) → Outcome B
+parse_then (Ok p) f = f p.0 p.1
+parse_then (Err left) f = Err left
 
 infixl 10 ◌>>=◌
 abbrev pub ◌>>=◌ : {A B : Type 0} → Parser A → (A → Parser B) → Parser B
-p >>= f = λ ts. and_then (p ts) f
+p >>= f = λ ts. parse_then (p ts) f
 
 infixl 10 ◌>>◌
 abbrev pub ◌>>◌ : {A B : Type 0} → Parser A → Parser B → Parser B
@@ -42,9 +42,9 @@ refuse = λ ts. Err ts
 
 -- what a function that parses ensures: the outcome, unless memory fails. Where it refuses, its tokens are left
 -- from the first one on that stands where nothing fits.
-abbrev pub Reads : {A : Type 0} → Outcome A → Result A PartFail → List Lexeme → Type 0
-Reads outcome (Ok a) new = outcome ≡ Ok (a, new)
-Reads outcome (Err e) new = e ≡ Refused → outcome ≡ Err new
+abbrev pub ReadsPart : {A : Type 0} → Outcome A → Result A PartFail → List Lexeme → Type 0
+ReadsPart outcome (Ok a) new = outcome ≡ Ok (a, new)
+ReadsPart outcome (Err e) new = e ≡ Refused → outcome ≡ Err new
 
 -- `==` on symbols
 unfoldable pub same_symbol : Symbol → Symbol → Bool
@@ -61,15 +61,15 @@ rest (t ∷ ts) = ts
 abbrev pub advance : Parser (Unit {0})
 advance = λ ts. Ok (tt, rest ts)
 
-unfoldable pub sees : Symbol → List Lexeme → Bool
-sees s ts = same_symbol (symbol_at ts) s
+unfoldable pub sees_symbol : Symbol → List Lexeme → Bool
+sees_symbol s ts = same_symbol (symbol_at ts) s
 
 unfoldable pub after : Symbol → List Lexeme → List Lexeme
-after s ts = if sees s ts then rest ts else ts
+after s ts = if sees_symbol s ts then rest ts else ts
 
 -- passes the next token where it is the symbol
 abbrev pub eat : Symbol → Parser Bool
-eat s = λ ts. Ok (sees s ts, after s ts)
+eat s = λ ts. Ok (sees_symbol s ts, after s ts)
 
 -- takes the next token, which has to be the symbol
 unfoldable pub expect : Symbol → Parser Lexeme

@@ -12,12 +12,12 @@ abbrev pub Spellings : Type 0
 Spellings = List (List ℕ × Symbol)
 
 -- the reserved words that the grammar uses
-abbrev pub words : Spellings
-words = map (λ entry. (entry.0.now, entry.1)) WORDS
+abbrev pub grammar_words : Spellings
+grammar_words = map (λ entry. (entry.0.now, entry.1)) WORDS
 
 -- the signs that the grammar uses
-abbrev pub signs : Spellings
-signs = map (λ entry. (entry.0.now, entry.1)) SIGNS
+abbrev pub grammar_signs : Spellings
+grammar_signs = map (λ entry. (entry.0.now, entry.1)) SIGNS
 
 -- the symbol that the table spells so, if any
 abbrev pub spelled : Spellings → List ℕ → Symbol
@@ -28,8 +28,8 @@ abbrev pub symbol_by : TokenKind → List ℕ → Symbol
 symbol_by kind.Name text = Name
 symbol_by kind.Number text = Number
 symbol_by kind.Mark text = Mark
-symbol_by kind.Reserved text = spelled words text
-symbol_by kind.Sign text = spelled signs text
+symbol_by kind.Reserved text = spelled grammar_words text
+symbol_by kind.Sign text = spelled grammar_signs text
 
 -- the symbol that a token is
 unfoldable pub symbol : Lexeme → Symbol

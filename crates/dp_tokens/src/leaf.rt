@@ -5,7 +5,7 @@ ghost use Rattle.dp_base.specs.Arithmetic.{is_zero};
 ghost use Rattle.dp_tokens.specs.declared.fail.PartFail.TheVariants as fail;
 ghost use Rattle.dp_tokens.specs.Steps as steps;
 ghost use Rattle.dp_tokens.specs.Numbers as numbers;
-ghost use Rattle.dp_tokens.specs.Steps.{Reads};
+ghost use Rattle.dp_tokens.specs.Steps.{ReadsPart};
 
 use crate::fail::PartFail;
 use crate::symbol::Symbol;
@@ -20,7 +20,7 @@ const MAX_NUMBER: u64 = 9_223_372_036_854_775_807;
 /// A name, with its line.
 #[tactic(auto, unfolding(crate::specs::Steps::name))]
 pub fn name(alloc: Global, tokens: &mut Tokens<'_, '_>) -> Result<Name, PartFail>
-    ensures { Reads (steps.name tokens.old) result tokens.new }
+    ensures { ReadsPart (steps.name tokens.old) result tokens.new }
 {
     let token = tokens.expect(Symbol::Name)?;
     Ok(Name {
@@ -32,7 +32,7 @@ pub fn name(alloc: Global, tokens: &mut Tokens<'_, '_>) -> Result<Name, PartFail
 /// A number.
 #[tactic(auto, unfolding(crate::specs::Numbers::number))]
 pub fn number(tokens: &mut Tokens<'_, '_>) -> Result<i64, PartFail>
-    ensures reads { Reads (numbers.number tokens.old) result tokens.new }
+    ensures reads { ReadsPart (numbers.number tokens.old) result tokens.new }
     ensures decides { result ≢ Err fail.NoMemory }
 {
     match tokens.next_number() {

@@ -25,13 +25,13 @@ pub struct Tokens<'a, 't> {
 impl<'a, 't> Model for Tokens<'a, 't> {
     ghost use Rattle.std.specs.Prelude.{List};
     ghost use Rattle.dp_lex.specs.Token.{Lexeme};
-    ghost use Rattle.dp_tokens.specs.Cursor.{lexemes_code, left_of, KnowsNext};
+    ghost use Rattle.dp_tokens.specs.Cursor.{lexemes_code, tokens_left, KnowsNext};
 
     ghost Value = { List Lexeme };
 
     ghost coded = { lexemes_code };
 
-    ghost view = { left_of };
+    ghost view = { tokens_left };
 
     ghost invariant = { KnowsNext };
 }
@@ -60,9 +60,9 @@ impl<'a, 't> Tokens<'a, 't> {
     }
 
     /// The number that comes next, if one does.
-    #[tactic(auto, unfolding(crate::specs::Numbers::next_number, crate::specs::Symbols::symbol_at))]
+    #[tactic(auto, unfolding(crate::specs::Numbers::number_in_front, crate::specs::Symbols::symbol_at))]
     pub fn next_number(&self) -> Option<i64>
-        ensures { result ≡ numbers.next_number self.now }
+        ensures { result ≡ numbers.number_in_front self.now }
     {
         match self.left {
             [first, ..] => number_of(same_symbol(self.next, Symbol::Number), first.text),
@@ -70,17 +70,17 @@ impl<'a, 't> Tokens<'a, 't> {
         }
     }
 
-    #[tactic(auto, unfolding(crate::specs::Steps::sees))]
+    #[tactic(auto, unfolding(crate::specs::Steps::sees_symbol))]
     pub fn sees(&self, symbol: Symbol) -> bool
-        ensures { result ≡ steps.sees symbol self.now }
+        ensures { result ≡ steps.sees_symbol symbol self.now }
     {
         same_symbol(self.next, symbol)
     }
 
     /// Whether the symbol stands behind the next token.
-    #[tactic(auto, unfolding(crate::specs::Steps::sees, crate::specs::Steps::rest, crate::specs::Symbols::symbol_at))]
+    #[tactic(auto, unfolding(crate::specs::Steps::sees_symbol, crate::specs::Steps::rest, crate::specs::Symbols::symbol_at))]
     pub fn sees_second(&self, symbol: Symbol) -> bool
-        ensures { result ≡ steps.sees symbol (steps.rest self.now) }
+        ensures { result ≡ steps.sees_symbol symbol (steps.rest self.now) }
     {
         match self.left {
             [_, rest @ ..] => same_symbol(symbol_at(rest), symbol),
@@ -102,7 +102,7 @@ impl<'a, 't> Tokens<'a, 't> {
     /// Passes the next token where it is the symbol, and tells whether it is.
     #[tactic(auto, unfolding(crate::specs::Steps::after))]
     pub fn eat(&mut self, symbol: Symbol) -> bool
-        ensures found { result ≡ steps.sees symbol self.old }
+        ensures found { result ≡ steps.sees_symbol symbol self.old }
         ensures after { self.new ≡ steps.after symbol self.old }
     {
         let found = self.sees(symbol);

@@ -86,7 +86,8 @@ assume n taken = record { site = record { 0 = n }; taken = taken }
 -- what opens where a meaning is computed on a tree: `unfolding tree_opened`
 unfoldable pub tree_opened : Unit {0}
 unfolding
-    Rattle.dp_tree.specs.Trace.run_of Rattle.dp_tree.specs.Eval.eval Rattle.dp_base.specs.Arithmetic.binary_result Rattle.dp_base.specs.Arithmetic.unary_result Rattle.dp_base.specs.Arithmetic.is_zero Rattle.dp_base.specs.Arithmetic.number_of
+    Rattle.dp_tree.specs.Trace.run_of Rattle.dp_tree.specs.Eval.eval Rattle.dp_base.specs.Arithmetic.binary_result Rattle.dp_base.specs.Arithmetic.unary_result
+    Rattle.dp_base.specs.Arithmetic.is_zero Rattle.dp_base.specs.Arithmetic.number_of
     Rattle.dp_tree.specs.declared.Stmt.TheViews.out-Stmt denote.Hole.Carrier.out
     Rattle.dp_tree.specs.declared.Expr.TheBlock.shape-the_row-Expr-0 Rattle.dp_tree.specs.declared.Expr.TheBlock.hidden-the_row-Expr-0
     Rattle.dp_tree.specs.declared.Stmt.TheBlock.shape-the_row-Stmt-0 Rattle.dp_tree.specs.declared.Stmt.TheBlock.hidden-the_row-Stmt-0

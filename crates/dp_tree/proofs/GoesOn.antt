@@ -1,12 +1,14 @@
 -- A run goes on from each of its configurations as the run from there does.
-use Rattle.std.proofs.Common.{◌≡◌, refl, sym, ap, ap₂, ◌∙◌, ℕ, zero, suc, ◌+◌, ◌-◌, ◌≤◌, ◌||◌, Bool, true, List, [], ◌∷◌, ◌++◌, ℤ, length, take, drop, map, Option, Some, None, is_some, slice_get, slice_range, count_by, nat_lt, cond, arith}
+use Rattle.std.proofs.Common.{◌≡◌, refl, sym, ap, ap₂, ◌∙◌, ℕ, zero, suc, ◌+◌, ◌-◌, ◌≤◌, ◌||◌, Bool, true, List, [], ◌∷◌, ◌++◌, ℤ, length, take, drop, map}
+use Rattle.std.proofs.Common.{Option, Some, None, is_some, slice_get, slice_range, count_by, nat_lt, cond, arith}
 use Rattle.std.proofs.lemmas.Option.{slice_get-map, slice_get_within}
 use Rattle.std.proofs.lemmas.List.{drop-drop, take-append-drop, length-take-le}
 use Rattle.std.proofs.lemmas.List.Sums.{sum_by-append}
 use Rattle.dp_tree.specs.declared.Program.{Program}
 use Rattle.dp_tree.specs.Step.{Config, Event, Step, Stepped, step}
 use Rattle.dp_tree.specs.Trace.{Run, run_of, run_by}
-use Rattle.dp_tree.specs.Iteration.{stands_at_head, places, starts, start, is_within, begun_count, closes, last_events, stop_from, events_from, iteration, is_closing, has_ended, cells_in, cells_after, memory_from, memory_after}
+use Rattle.dp_tree.specs.Iteration.{stands_at_head, places, starts, start, is_within, begun_count, closes, last_events, stop_from, events_from, iteration}
+use Rattle.dp_tree.specs.Iteration.{is_closing, has_ended, cells_in, cells_after, memory_from, memory_after}
 use Rattle.dp_tree.specs.GoesOn.{moved, GoesOnAs, starts_before, GoesOn, GoesOnFrom}
 use Rattle.dp_tree.proofs.RunLaws.{runs_by_step}
 use Rattle.dp_tree.proofs.MovedLists.{at_drop, count_above, count_below, count_moved, count_to, moved_map, places_moved, places_split, range_moved, same_test}
@@ -23,8 +25,10 @@ module _ (p : Program) (input : List ℤ) where
   one_config : {A : Type 0} (c d : Config) (k : ℕ) → slice_get (c ∷ []) (suc k) ≡ Some d → A
   one_config c d k e = absurd (cc)
 
-  rest_by : (fuel k : ℕ) (c d : Config) → ((next : Config) → slice_get (run_of p input fuel next).configs k ≡ Some d → Rest fuel k (run_of p input fuel next) d) →
-      (s : Step) → slice_get (run_by (run_of p input fuel) (suc fuel) c s).configs (suc k) ≡ Some d → Rest (suc fuel) (suc k) (run_by (run_of p input fuel) (suc fuel) c s) d
+  rest_by : (fuel k : ℕ) (c d : Config) → ((next : Config) → slice_get (run_of p input fuel next).configs k ≡ Some d →
+      Rest fuel k (run_of p input fuel next) d) →
+      (s : Step) → slice_get (run_by (run_of p input fuel) (suc fuel) c s).configs (suc k) ≡ Some d →
+      Rest (suc fuel) (suc k) (run_by (run_of p input fuel) (suc fuel) c s) d
   rest_by fuel k c d go (Stepped event next) e =
       let q = go next e in let left : fuel - k ≡ suc fuel - suc k = omega arith in
       record {
@@ -75,16 +79,21 @@ module _ (p : Program) (input : List ℤ) where
 
     starts_are : starts run r ≡ earlier ++ map (λ (n : ℕ). k + n) (starts later r)
     starts_are = ap (places here 0) (sym (take-append-drop k run.configs)) ∙ places_split here 0 (take k run.configs) (drop k run.configs)
-        ∙ ap (λ (n : ℕ). earlier ++ places here n (drop k run.configs)) (omega (arith, front)) ∙ ap (λ (cs : List Config). earlier ++ places here k cs) q.configs
+        ∙ ap (λ (n : ℕ). earlier ++ places here n (drop k run.configs)) (omega (arith, front))
+        ∙ ap (λ (cs : List Config). earlier ++ places here k cs) q.configs
         ∙ ap (λ (ns : List ℕ). earlier ++ ns) (places_moved here k later.configs)
 
-    counted : (n : ℕ) → k ≤ n → count_by (λ m. nat_lt m n) (starts run r) ≡ length earlier + count_by (λ m. nat_lt m n) (map (λ (i : ℕ). k + i) (starts later r))
-    counted n h = ap (λ (ns : List ℕ). count_by (λ m. nat_lt m n) ns) starts_are ∙ sum_by-append (λ (m : ℕ). cond (nat_lt m n) 1 0) earlier (map (λ (i : ℕ). k + i) (starts later r))
-        ∙ ap (λ (i : ℕ). i + count_by (λ m. nat_lt m n) (map (λ (i : ℕ). k + i) (starts later r))) (count_below here n 0 (take k run.configs) (omega (arith, front, h)))
+    counted : (n : ℕ) → k ≤ n → count_by (λ m. nat_lt m n) (starts run r) ≡ length earlier + count_by (λ m. nat_lt m n)
+        (map (λ (i : ℕ). k + i) (starts later r))
+    counted n h = ap (λ (ns : List ℕ). count_by (λ m. nat_lt m n) ns) starts_are ∙ sum_by-append (λ (m : ℕ). cond (nat_lt m n) 1 0) earlier
+        (map (λ (i : ℕ). k + i) (starts later r))
+        ∙ ap (λ (i : ℕ). i + count_by (λ m. nat_lt m n) (map (λ (i : ℕ). k + i) (starts later r)))
+        (count_below here n 0 (take k run.configs) (omega (arith, front, h)))
 
     before_is : starts_before run r k ≡ length earlier
     before_is =
-        let none : count_by (λ m. nat_lt m k) (map (λ (i : ℕ). k + i) (starts later r)) ≡ 0 = ap (λ (ns : List ℕ). count_by (λ m. nat_lt m k) ns) (sym (places_moved here k later.configs)) ∙ count_above here k k later.configs (omega arith) in
+        let none : count_by (λ m. nat_lt m k) (map (λ (i : ℕ). k + i) (starts later r)) ≡ 0 = ap (λ (ns : List ℕ). count_by (λ m. nat_lt m k) ns)
+        (sym (places_moved here k later.configs)) ∙ count_above here k k later.configs (omega arith) in
         omega (arith, counted k (omega arith), none)
 
     module _ (m : ℕ) (before : length earlier ≡ m) where
@@ -97,7 +106,8 @@ module _ (p : Program) (input : List ℤ) where
 
       started : (i : ℕ) → start run r (m + i) ≡ moved k (start later r i)
       started i =
-          ap (λ (ns : List ℕ). slice_get ns (m + i)) starts_are ∙ ap (λ (n : ℕ). slice_get (earlier ++ map (λ (j : ℕ). k + j) (starts later r)) (n + i)) (sym before)
+          ap (λ (ns : List ℕ). slice_get ns (m + i)) starts_are
+          ∙ ap (λ (n : ℕ). slice_get (earlier ++ map (λ (j : ℕ). k + j) (starts later r)) (n + i)) (sym before)
           ∙ get_behind earlier (map (λ (j : ℕ). k + j) (starts later r)) i ∙ slice_get-map (λ (j : ℕ). k + j) (starts later r) i ∙ moved_map k (start later r i)
 
       next_started : (i : ℕ) → start run r (suc (m + i)) ≡ moved k (start later r (suc i))

@@ -1,5 +1,6 @@
 -- Statements by their heads: whose sites pass a test, what follows them, and their steps.
-use Rattle.std.proofs.Common.{◌≡◌, refl, sym, ap, ◌∙◌, append_assoc, ℕ, Bool, true, false, not, ◌&&◌, ◌==◌, if◌then◌else◌, List, [], ◌∷◌, ◌++◌, ℤ, pos, Ok, Err, Option, Some, None, ◌⊎◌, inl, inr}
+use Rattle.std.proofs.Common.{◌≡◌, refl, sym, ap, ◌∙◌, append_assoc, ℕ, Bool, true, false, not, ◌&&◌, ◌==◌, if◌then◌else◌, List, [], ◌∷◌, ◌++◌, ℤ, pos, Ok, Err}
+use Rattle.std.proofs.Common.{Option, Some, None, ◌⊎◌, inl, inr}
 use Rattle.dp_base.specs.Arithmetic.{is_zero}
 use Rattle.dp_base.specs.declared.SiteId.{SiteId}
 use Rattle.dp_tree.specs.declared.Stmt.{Stmt, out-Stmt}
@@ -7,7 +8,8 @@ use Rattle.dp_tree.specs.declared.Stmt.TheOpen.{Stmt-F, Assign, Store, Print, If
 use Rattle.dp_tree.specs.declared.Program.{Program}
 use Rattle.dp_tree.specs.Eval.{Load, Evaluated, eval, and_then, after_loads, place, cell_count}
 use Rattle.dp_tree.specs.Event.{Effect, Printed, Decided, Tried, Event, value_of}
-use Rattle.dp_tree.specs.Step.{Config, Finished, Stepped, choose, followed, behind_region, behind_one, region_number, stored_by, after_effect, site_of, decided, tried, evaluated, standing, step_by, step_at, step_from, step}
+use Rattle.dp_tree.specs.Step.{Config, Finished, Stepped, choose, followed, behind_region, behind_one, region_number, stored_by, after_effect, site_of, decided}
+use Rattle.dp_tree.specs.Step.{tried, evaluated, standing, step_by, step_at, step_from, step}
 use Rattle.dp_tree.specs.Iteration.{is_region, decides_zero, leaves}
 pub use Rattle.dp_tree.proofs.SitesOf.{everywhere_hidden, and_make, and_true, keeps_all, keeps_at, keeps_behind, keeps_followed, keeps_out, no_region}
 unfoldable pub use Rattle.dp_tree.proofs.SitesOf.{opened_statement}
@@ -17,12 +19,14 @@ abbrev pub taken : Stmt-F Stmt → ℤ → Bool
 taken (Break site cond) z = not (is_zero z)
 taken _ z = false
 
-back_to : (x : Stmt) (rest behind a : List Stmt) (t : Bool) → (if t then rest ++ behind else a ++ x ∷ (rest ++ behind)) ≡ (if t then rest else a ++ x ∷ rest) ++ behind
+back_to : (x : Stmt) (rest behind a : List Stmt) (t : Bool) → (if t then rest ++ behind else a ++ x ∷ (rest ++ behind)) ≡ (if t then rest else a
+    ++ x ∷ rest) ++ behind
 back_to x rest behind a true = refl
 back_to x rest behind a false = sym (append_assoc a (x ∷ rest) behind)
 
 -- what follows goes on into the statements behind, unless it is left
-pub followed-append : (x : Stmt) (rest behind : List Stmt) (h : Stmt-F Stmt) (z : ℤ) → taken h z ≡ false → followed x (rest ++ behind) h z ≡ followed x rest h z ++ behind
+pub followed-append : (x : Stmt) (rest behind : List Stmt) (h : Stmt-F Stmt) (z : ℤ) → taken h z ≡ false →
+    followed x (rest ++ behind) h z ≡ followed x rest h z ++ behind
 followed-append x rest behind (Break site cond) z t = by (is_zero z) t
   where
     by : (t : Bool) → not t ≡ false → (if t then rest ++ behind else behind_region (rest ++ behind)) ≡ (if t then rest else behind_region rest) ++ behind
@@ -43,12 +47,14 @@ taken_left x rest (Break site cond) z t = by (is_zero z) t
 taken_left x rest _ z t = absurd (cc)
 
 -- it goes on into the statements behind, or they are left
-pub left-append : (rest behind : List Stmt) → (behind_region (rest ++ behind) ≡ behind_region rest ++ behind) ⊎ (behind_region (rest ++ behind) ≡ behind_region behind)
+pub left-append : (rest behind : List Stmt) → (behind_region (rest ++ behind) ≡ behind_region rest ++ behind)
+    ⊎ (behind_region (rest ++ behind) ≡ behind_region behind)
 left-append [] behind = inr refl
 left-append (x ∷ rest) behind = by (region_number (out-Stmt x)) (left-append rest behind)
   where
     by : (o : Option ℕ) → (behind_region (rest ++ behind) ≡ behind_region rest ++ behind) ⊎ (behind_region (rest ++ behind) ≡ behind_region behind) →
-        (behind_one o (rest ++ behind) (behind_region (rest ++ behind)) ≡ behind_one o rest (behind_region rest) ++ behind) ⊎ (behind_one o (rest ++ behind) (behind_region (rest ++ behind)) ≡ behind_region behind)
+        (behind_one o (rest ++ behind) (behind_region (rest ++ behind)) ≡ behind_one o rest (behind_region rest) ++ behind)
+        ⊎ (behind_one o (rest ++ behind) (behind_region (rest ++ behind)) ≡ behind_region behind)
     by None later = later
     by (Some q) later = inl refl
 
@@ -75,7 +81,8 @@ module _ (p : Program) (input : List ℤ) where
     loads_of : List Load
     was : e ≡ Ok (record { value = event.effect; loads = loads_of })
 
-  by_evaluated : (site : SiteId) (e : Evaluated Effect) (next_by : Effect → Config) (event : Event) (next : Config) → step_by p site e next_by ≡ Stepped event next → StepBy site e next_by event next
+  by_evaluated : (site : SiteId) (e : Evaluated Effect) (next_by : Effect → Config) (event : Event) (next : Config) →
+      step_by p site e next_by ≡ Stepped event next → StepBy site e next_by event next
   by_evaluated site (Err kind) next_by event next e = absurd (cc)
   by_evaluated site (Ok v) next_by event next e =
       let event_is : event ≡ record { site = site.0; loads = v.loads; effect = v.value } = cc in
@@ -91,7 +98,8 @@ module _ (p : Program) (input : List ℤ) where
   effect_or (Ok v) = v.value
   effect_or (Err kind) = Printed (pos 0)
 
-  decided_zero_is : (e : Evaluated ℤ) (effect : Effect) (loads : List Load) → decided e ≡ Ok (record { value = effect; loads = loads }) → decides_zero effect ≡ is_zero (value_of effect)
+  decided_zero_is : (e : Evaluated ℤ) (effect : Effect) (loads : List Load) → decided e ≡ Ok (record { value = effect; loads = loads }) →
+      decides_zero effect ≡ is_zero (value_of effect)
   decided_zero_is (Err kind) effect loads e = absurd (cc)
   decided_zero_is (Ok v) effect loads e =
       let is : effect ≡ Decided v.value = sym (ap effect_or e) in
@@ -101,9 +109,11 @@ module _ (p : Program) (input : List ℤ) where
   decided_stays (Err kind) effect loads e = absurd (cc)
   decided_stays (Ok v) effect loads e = ap leaves (sym (ap effect_or e))
 
-  tried_leaves : (e : Evaluated ℤ) (effect : Effect) (loads : List Load) → tried e ≡ Ok (record { value = effect; loads = loads }) → leaves effect ≡ not (is_zero (value_of effect))
+  tried_leaves : (e : Evaluated ℤ) (effect : Effect) (loads : List Load) → tried e ≡ Ok (record { value = effect; loads = loads }) →
+      leaves effect ≡ not (is_zero (value_of effect))
   tried_leaves (Err kind) effect loads e = absurd (cc)
-  tried_leaves (Ok v) effect loads e = let is : effect ≡ Tried v.value = sym (ap effect_or e) in ap leaves is ∙ sym (ap (λ (x : Effect). not (is_zero (value_of x))) is)
+  tried_leaves (Ok v) effect loads e = let is : effect ≡ Tried v.value = sym (ap effect_or e) in
+      ap leaves is ∙ sym (ap (λ (x : Effect). not (is_zero (value_of x))) is)
 
   -- an evaluation whose effect is a store or a print
   abbrev Quietly : Evaluated Effect → Type 0
@@ -118,14 +128,18 @@ module _ (p : Program) (input : List ℤ) where
   quiet_then (Err kind) next q = tt
   quiet_then (Ok v) next q = quiet_after v.loads (next v.value) (q v.value)
 
-  quiet_stays : (e : Evaluated Effect) (effect : Effect) (loads : List Load) → Quietly e → e ≡ Ok (record { value = effect; loads = loads }) → leaves effect ≡ false
+  quiet_stays : (e : Evaluated Effect) (effect : Effect) (loads : List Load) → Quietly e → e ≡ Ok (record { value = effect; loads = loads }) →
+      leaves effect ≡ false
   quiet_stays (Err kind) effect loads q e = absurd (cc)
   quiet_stays (Ok v) effect loads q e = ap leaves (sym (ap effect_or e)) ∙ q
 
-  to_do_of : (x : Stmt) (rest : List Stmt) (cells : List ℤ) (h : Stmt-F Stmt) (event : Event) (next : Config) → next ≡ after_effect p x rest cells h event.effect → next.to_do ≡ followed x rest h (value_of event.effect)
-  to_do_of x rest cells h event next e = ap (λ (c : Config). c.to_do) e ∙ standing_to_do p (followed x rest h (value_of event.effect)) (stored_by p rest h event.effect cells)
+  to_do_of : (x : Stmt) (rest : List Stmt) (cells : List ℤ) (h : Stmt-F Stmt) (event : Event) (next : Config) →
+      next ≡ after_effect p x rest cells h event.effect → next.to_do ≡ followed x rest h (value_of event.effect)
+  to_do_of x rest cells h event next e =
+      ap (λ (c : Config). c.to_do) e ∙ standing_to_do p (followed x rest h (value_of event.effect)) (stored_by p rest h event.effect cells)
 
-  head_step : (x : Stmt) (rest : List Stmt) (cells : List ℤ) (h : Stmt-F Stmt) (event : Event) (next : Config) → step_at p input cells x rest h ≡ Stepped event next → StepsTo x rest h event next
+  head_step : (x : Stmt) (rest : List Stmt) (cells : List ℤ) (h : Stmt-F Stmt) (event : Event) (next : Config) →
+      step_at p input cells x rest h ≡ Stepped event next → StepsTo x rest h event next
   head_step x rest cells (Assign site v e) event next s =
       let b = by_evaluated site (evaluated p input cells (Assign site v e)) (after_effect p x rest cells (Assign site v e)) event next s in
       record {
@@ -142,7 +156,9 @@ module _ (p : Program) (input : List ℤ) where
         to_do = to_do_of x rest cells (Store site v index e) event next b.next_is;
         tested = λ test r k. ap test b.site_is ∙ k;
         zero = λ r k. absurd (cc);
-        left = quiet_stays (evaluated p input cells (Store site v index e)) event.effect b.loads_of (quiet_then (eval p input cells index) _ (λ i. quiet_then (eval p input cells e) _ (λ z. quiet_then (place i (cell_count p v)) _ (λ k. refl)))) b.was;
+        left = quiet_stays (evaluated p input cells (Store site v index e)) event.effect b.loads_of
+            (quiet_then (eval p input cells index) _ (λ i. quiet_then (eval p input cells e) _ (λ z. quiet_then (place i (cell_count p v)) _ (λ k. refl))))
+            b.was;
       }
   head_step x rest cells (Print site e) event next s =
       let b = by_evaluated site (evaluated p input cells (Print site e)) (after_effect p x rest cells (Print site e)) event next s in
@@ -192,8 +208,10 @@ module _ (p : Program) (input : List ℤ) where
   head_step x rest cells (Call f line args) event next s = absurd (cc)
 
   -- a configuration that makes a step has a head
-  pub stepped : (c : Config) (x : Stmt) (rest : List Stmt) (event : Event) (next : Config) → c.to_do ≡ x ∷ rest → step p input c ≡ Stepped event next → StepsTo x rest (out-Stmt x) event next
+  pub stepped : (c : Config) (x : Stmt) (rest : List Stmt) (event : Event) (next : Config) → c.to_do ≡ x ∷ rest → step p input c ≡ Stepped event next →
+      StepsTo x rest (out-Stmt x) event next
   stepped c x rest event next e s = head_step x rest c.cells (out-Stmt x) event next (sym (ap (λ (todo : List Stmt). step_from p input c.cells todo) e) ∙ s)
 
   pub not_stepped : {A : Type 0} (c : Config) (event : Event) (next : Config) → c.to_do ≡ [] → step p input c ≡ Stepped event next → A
-  not_stepped c event next e s = let clash : Finished ≡ Stepped event next = sym (ap (λ (todo : List Stmt). step_from p input c.cells todo) e) ∙ s in absurd (cc clash)
+  not_stepped c event next e s = let clash : Finished ≡ Stepped event next = sym (ap (λ (todo : List Stmt). step_from p input c.cells todo) e)
+      ∙ s in absurd (cc clash)

@@ -1,5 +1,6 @@
 -- A run that begins within `main` stays there.
-use Rattle.std.proofs.Common.{◌≡◌, refl, sym, ap, ◌∙◌, subst, append_assoc, ℕ, zero, suc, Bool, true, false, if◌then◌else◌, List, [], ◌∷◌, ◌++◌, ℤ, pos, length, Option, Some, None, inl, inr, slice_get, slice_set, Ok, Err, arith}
+use Rattle.std.proofs.Common.{◌≡◌, refl, sym, ap, ◌∙◌, subst, append_assoc, ℕ, zero, suc, Bool, true, false, if◌then◌else◌, List, [], ◌∷◌, ◌++◌, ℤ, pos, length}
+use Rattle.std.proofs.Common.{Option, Some, None, inl, inr, slice_get, slice_set, Ok, Err, arith}
 use Rattle.std.specs.List.{list_all}
 use Rattle.std.proofs.lemmas.Bool.{cases_Bool}
 use Rattle.std.proofs.lemmas.Option.{slice_get_within}
@@ -14,7 +15,8 @@ use Rattle.dp_tree.specs.declared.VarInfo.{VarInfo}
 use Rattle.dp_tree.specs.declared.Program.{Program}
 use Rattle.dp_tree.specs.Eval.{Evaluated}
 use Rattle.dp_tree.specs.Event.{Effect, Stored, Event, value_of, stored}
-use Rattle.dp_tree.specs.Step.{Config, Stepped, choose, followed, behind_region, behind_one, region_number, clear_one, cleared_leaving, stored_by, after_effect, site_of, evaluated, is_local_of, clear_locals, cleared_at, standing, step_by, step_at, step}
+use Rattle.dp_tree.specs.Step.{Config, Stepped, choose, followed, behind_region, behind_one, region_number, clear_one, cleared_leaving, stored_by, after_effect}
+use Rattle.dp_tree.specs.Step.{site_of, evaluated, is_local_of, clear_locals, cleared_at, standing, step_by, step_at, step}
 use Rattle.dp_tree.specs.Trace.{run_of, start_cells, begin}
 use Rattle.dp_tree.specs.Numbering.{is_inner, regions_in_order}
 use Rattle.dp_tree.specs.RunLaws.{GoesByStep}
@@ -36,14 +38,16 @@ cleared_length r (x ∷ xs) cells = cleared_length r xs (if is_local_of r x.scop
     by false = refl
 
 module _ (p : Program) (input : List ℤ) where
-  next_by : (site : SiteId) (e : Evaluated Effect) (next_of : Effect → Config) (event : Event) (next : Config) → step_by p site e next_of ≡ Stepped event next → next ≡ next_of event.effect
+  next_by : (site : SiteId) (e : Evaluated Effect) (next_of : Effect → Config) (event : Event) (next : Config) → step_by p site e next_of ≡ Stepped event next →
+      next ≡ next_of event.effect
   next_by site (Err kind) next_of event next e = absurd (cc)
   next_by site (Ok v) next_of event next e =
       let event_is : event ≡ record { site = site.0; loads = v.loads; effect = v.value } = cc in
       let next_is : next ≡ next_of v.value = cc in
       next_is ∙ ap next_of (sym (ap (λ (x : Event). x.effect) event_is))
 
-  pub next_at : (x : Stmt) (rest : List Stmt) (cells : List ℤ) (h : Stmt-F Stmt) (event : Event) (next : Config) → step_at p input cells x rest h ≡ Stepped event next → next ≡ after_effect p x rest cells h event.effect
+  pub next_at : (x : Stmt) (rest : List Stmt) (cells : List ℤ) (h : Stmt-F Stmt) (event : Event) (next : Config) →
+      step_at p input cells x rest h ≡ Stepped event next → next ≡ after_effect p x rest cells h event.effect
   next_at x rest cells (Call f line args) event next e = absurd (cc)
   next_at x rest cells h event next e = next_by (site_of h) (evaluated p input cells h) (after_effect p x rest cells h) event next e
 
@@ -72,7 +76,8 @@ module _ (p : Program) (input : List ℤ) where
   left_ends [] = ([], refl)
   left_ends (x ∷ xs) = by (region_number (out-Stmt x)) (left_ends xs)
     where
-      by : (o : Option ℕ) → (front : List Stmt) × (xs ≡ front ++ behind_region xs) → (front : List Stmt) × (x ∷ xs ≡ front ++ behind_one o xs (behind_region xs))
+      by : (o : Option ℕ) → (front : List Stmt) × (xs ≡ front ++ behind_region xs) → (front : List Stmt)
+          × (x ∷ xs ≡ front ++ behind_one o xs (behind_region xs))
       by None later = (x ∷ later.0, ap (λ (ys : List Stmt). x ∷ ys) later.1)
       by (Some r) later = (x ∷ [], refl)
 
@@ -101,16 +106,19 @@ module _ (p : Program) (input : List ℤ) where
         looped a w false = there a before (x ∷ rest) main_is w
 
         by : (h : Stmt-F Stmt) → top_at h ≡ true → Follows (followed x rest h z)
-        by (If site cond a b) w = let both = and_true (plain_all a) (plain_all b) w in there (choose z a b) (before ++ x ∷ []) rest beyond (inner_plain (choose z a b) (plain_choose z a b both.0 both.1))
+        by (If site cond a b) w = let both = and_true (plain_all a) (plain_all b) w in
+            there (choose z a b) (before ++ x ∷ []) rest beyond (inner_plain (choose z a b) (plain_choose z a b both.0 both.1))
         by (While site cond a) w = looped a (inner_plain a w) (is_zero z)
         by (Region q site cond a) w = looped a w (is_zero z)
         by (Break site cond) w = absurd (cc)
         by _ w = there [] (before ++ x ∷ []) rest beyond refl
 
-    follows : (inner before behind : List Stmt) (x : Stmt) (rest : List Stmt) (z : ℤ) → p.main ≡ before ++ behind → inner_all inner ≡ true → inner ++ behind ≡ x ∷ rest → Follows (followed x rest (out-Stmt x) z)
+    follows : (inner before behind : List Stmt) (x : Stmt) (rest : List Stmt) (z : ℤ) → p.main ≡ before ++ behind → inner_all inner ≡ true →
+        inner ++ behind ≡ x ∷ rest → Follows (followed x rest (out-Stmt x) z)
     follows [] before behind x rest z main_is plain e =
         let main = main_is ∙ ap (λ (ys : List Stmt). before ++ ys) e in
-        let tops = and_true (list_all is_top before) (list_all is_top (x ∷ rest)) (sym (list_all-append is_top before (x ∷ rest)) ∙ ap (list_all is_top) (sym main) ∙ all_top 1 p.main in_order) in
+        let tops = and_true (list_all is_top before) (list_all is_top (x ∷ rest)) (sym (list_all-append is_top before (x ∷ rest))
+        ∙ ap (list_all is_top) (sym main) ∙ all_top 1 p.main in_order) in
         top_follows x before rest (out-Stmt x) z main (and_true (is_top x) (list_all is_top rest) tops.1).0
     follows (y ∷ inner) before behind x rest z main_is plain e =
         let here : y ≡ x = cc in let more : inner ++ behind ≡ rest = cc in let both = and_true (is_inner y) (inner_all inner) plain in
@@ -119,7 +127,8 @@ module _ (p : Program) (input : List ℤ) where
           | inl t ↦
               let ends = left_ends behind in
               subst Follows (sym (taken_left x (inner ++ behind) (out-Stmt x) z t ∙ inner_left inner behind both.1))
-              (there [] (before ++ ends.0) (behind_region behind) (main_is ∙ ap (λ (ys : List Stmt). before ++ ys) ends.1 ∙ sym (append_assoc before ends.0 (behind_region behind))) refl)
+              (there [] (before ++ ends.0) (behind_region behind) (main_is ∙ ap (λ (ys : List Stmt). before ++ ys) ends.1
+              ∙ sym (append_assoc before ends.0 (behind_region behind))) refl)
           | inr t ↦
               subst Follows (sym (followed-append x inner behind (out-Stmt x) z t))
               (there (followed x inner (out-Stmt x) z) before behind main_is (inner_followed x inner (out-Stmt x) z t one (sym (inner_out x) ∙ one) both.1))
@@ -145,7 +154,8 @@ module _ (p : Program) (input : List ℤ) where
               main_is = q.main_is;
               plain = q.plain;
               config_is = next ∙ ap (λ (ys : List Stmt). standing p ys (stored_by p rest (out-Stmt x) event.effect (cleared_at p (out-Stmt x) s.cells))) q.is;
-              cells_are = stored_by_length rest (out-Stmt x) event.effect (cleared_at p (out-Stmt x) s.cells) ∙ cleared_at_length (out-Stmt x) s.cells ∙ s.cells_are;
+              cells_are = stored_by_length rest (out-Stmt x) event.effect (cleared_at p (out-Stmt x) s.cells)
+                  ∙ cleared_at_length (out-Stmt x) s.cells ∙ s.cells_are;
             }
 
     pub stays_in_main : StaysInMain p input
@@ -163,4 +173,13 @@ module _ (p : Program) (input : List ℤ) where
             stands_next before.0 d event.0 (walk k before.0 before.1) (steps.each k before.0 d event.0 before.1 event.1 at)
 
 pub begins_in_main : (p : Program) → StandsInMain p (begin p)
-begins_in_main p = record { inner = []; before = []; behind = p.main; cells = start_cells p.vars; main_is = refl; plain = refl; config_is = refl; cells_are = refl }
+begins_in_main p = record {
+  inner = [];
+  before = [];
+  behind = p.main;
+  cells = start_cells p.vars;
+  main_is = refl;
+  plain = refl;
+  config_is = refl;
+  cells_are = refl;
+}

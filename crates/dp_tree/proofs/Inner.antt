@@ -31,7 +31,8 @@ unfolding opened_statement
 plain_roll (Assign site x e) = ap is_plain (rolls-Assign site x e)
 plain_roll (Store site x index e) = ap is_plain (rolls-Store site x index e)
 plain_roll (Print site e) = ap is_plain (rolls-Print site e)
-plain_roll (If site cond a b) = ap is_plain (rolls-If site cond a b) ∙ ap (λ (u : Bool). u && hidden_plain b) (plain_hidden a) ∙ ap (λ (u : Bool). plain_all a && u) (plain_hidden b)
+plain_roll (If site cond a b) = ap is_plain (rolls-If site cond a b) ∙ ap (λ (u : Bool). u && hidden_plain b) (plain_hidden a)
+    ∙ ap (λ (u : Bool). plain_all a && u) (plain_hidden b)
 plain_roll (While site cond a) = ap is_plain (rolls-While site cond a) ∙ plain_hidden a
 plain_roll (Region q site cond a) = ap is_plain (rolls-Region q site cond a)
 plain_roll (Break site cond) = ap is_plain (rolls-Break site cond)
@@ -82,7 +83,8 @@ pub inner_plain : (xs : List Stmt) → plain_all xs ≡ true → inner_all xs �
 inner_plain [] w = refl
 inner_plain (x ∷ xs) w =
     let both = and_true (is_plain x) (plain_all xs) w in
-    and_make (is_inner x) (inner_all xs) (inner_out x ∙ inner_from (out-Stmt x) (sym (ap is_plain (sym (roll-out-Stmt x)) ∙ plain_roll (out-Stmt x)) ∙ both.0)) (inner_plain xs both.1)
+    and_make (is_inner x) (inner_all xs) (inner_out x ∙ inner_from (out-Stmt x) (sym (ap is_plain (sym (roll-out-Stmt x)) ∙ plain_roll (out-Stmt x)) ∙ both.0))
+    (inner_plain xs both.1)
 
 pub inner_join : (a b : List Stmt) → inner_all a ≡ true → inner_all b ≡ true → inner_all (a ++ b) ≡ true
 inner_join a b h k = list_all-append is_inner a b ∙ and_make (inner_all a) (inner_all b) h k
@@ -96,10 +98,12 @@ pub inner_left : (xs behind : List Stmt) → inner_all xs ≡ true → behind_re
 inner_left [] behind w = refl
 inner_left (x ∷ xs) behind w =
     let both = and_true (is_inner x) (inner_all xs) w in
-    ap (λ (o : Option ℕ). behind_one o (xs ++ behind) (behind_region (xs ++ behind))) (no_number (out-Stmt x) (sym (inner_out x) ∙ both.0)) ∙ inner_left xs behind both.1
+    ap (λ (o : Option ℕ). behind_one o (xs ++ behind) (behind_region (xs ++ behind))) (no_number (out-Stmt x) (sym (inner_out x) ∙ both.0))
+    ∙ inner_left xs behind both.1
 
 -- what follows such a statement among such ones is such, unless it leaves them
-pub inner_followed : (x : Stmt) (rest : List Stmt) (h : Stmt-F Stmt) (z : ℤ) → taken h z ≡ false → is_inner x ≡ true → inner_at h ≡ true → inner_all rest ≡ true → inner_all (followed x rest h z) ≡ true
+pub inner_followed : (x : Stmt) (rest : List Stmt) (h : Stmt-F Stmt) (z : ℤ) → taken h z ≡ false → is_inner x ≡ true → inner_at h ≡ true →
+    inner_all rest ≡ true → inner_all (followed x rest h z) ≡ true
 inner_followed x rest (If site cond a b) z t w h k =
     let both = and_true (plain_all a) (plain_all b) h in inner_join (choose z a b) rest (inner_plain (choose z a b) (plain_choose z a b both.0 both.1)) k
 inner_followed x rest (While site cond a) z t w h k = by (is_zero z)
@@ -125,8 +129,10 @@ is_top x = top_at (out-Stmt x)
 
 top_roll : (r : ℕ) (h : Stmt-F Stmt) → top_fits r (roll-Stmt h) ≡ true → top_at h ≡ true
 unfolding opened_statement
-top_roll r (If site cond a b) w = sym (plain_roll (If site cond a b)) ∙ ap is_plain (rolls-If site cond a b) ∙ sym (ap (top_fits r) (rolls-If site cond a b)) ∙ w
-top_roll r (While site cond a) w = sym (plain_roll (While site cond a)) ∙ ap is_plain (rolls-While site cond a) ∙ sym (ap (top_fits r) (rolls-While site cond a)) ∙ w
+top_roll r (If site cond a b) w =
+    sym (plain_roll (If site cond a b)) ∙ ap is_plain (rolls-If site cond a b) ∙ sym (ap (top_fits r) (rolls-If site cond a b)) ∙ w
+top_roll r (While site cond a) w =
+    sym (plain_roll (While site cond a)) ∙ ap is_plain (rolls-While site cond a) ∙ sym (ap (top_fits r) (rolls-While site cond a)) ∙ w
 top_roll r (Region q site cond a) w = sym (inner_hidden a) ∙ (and_true (q == r) (hidden_inner a) (sym (ap (top_fits r) (rolls-Region q site cond a)) ∙ w)).1
 top_roll r (Break site cond) w = sym (ap (top_fits r) (rolls-Break site cond)) ∙ w
 top_roll r _ w = refl
@@ -136,4 +142,5 @@ top_out r x w = top_roll r (out-Stmt x) (ap (top_fits r) (roll-out-Stmt x) ∙ w
 
 pub all_top : (r : ℕ) (xs : List Stmt) → regions_in_order r xs ≡ true → list_all is_top xs ≡ true
 all_top r [] w = refl
-all_top r (x ∷ xs) w = let both = and_true (top_fits r x) (regions_in_order (next_region r x) xs) w in and_make (is_top x) (list_all is_top xs) (top_out r x both.0) (all_top (next_region r x) xs both.1)
+all_top r (x ∷ xs) w = let both = and_true (top_fits r x) (regions_in_order (next_region r x) xs) w in
+    and_make (is_top x) (list_all is_top xs) (top_out r x both.0) (all_top (next_region r x) xs both.1)

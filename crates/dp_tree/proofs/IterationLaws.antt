@@ -1,5 +1,6 @@
 -- Iterations one after the other.
-use Rattle.std.proofs.Common.{◌≡◌, refl, sym, ap, ap₂, ◌∙◌, ℕ, zero, suc, ◌+◌, ◌-◌, ◌<◌, ◌≤◌, Bool, true, false, if◌then◌else◌, List, [], ◌∷◌, ◌++◌, ℤ, length, take, drop, take-add, Option, Some, None, slice_get, slice_range, arith}
+use Rattle.std.proofs.Common.{◌≡◌, refl, sym, ap, ap₂, ◌∙◌, ℕ, zero, suc, ◌+◌, ◌-◌, ◌<◌, ◌≤◌, Bool, true, false, if◌then◌else◌, List, [], ◌∷◌, ◌++◌, ℤ, length}
+use Rattle.std.proofs.Common.{take, drop, take-add, Option, Some, None, slice_get, slice_range, arith}
 use Rattle.std.proofs.lemmas.List.{drop-drop}
 use Rattle.dp_tree.specs.declared.Program.{Program}
 use Rattle.dp_tree.specs.Step.{Event}
@@ -16,7 +17,8 @@ range_join {X = X} xs a b c h k =
     sym (ap (λ (n : ℕ). take n (drop a xs)) sum ∙ take-add (b - a) (c - b) (drop a xs) ∙ ap (λ (ys : List X). take (b - a) (drop a xs) ++ take (c - b) ys) rest)
 
 module _ {X : Type 0} (test : X → Bool) where
-  within_by : (k a : ℕ) (xs : List X) (rest : (i : ℕ) → slice_get (places test (suc k) xs) i ≡ Some a → (suc k ≤ a) × (a < suc k + length xs)) (b : Bool) (i : ℕ) →
+  within_by : (k a : ℕ) (xs : List X) (rest : (i : ℕ) → slice_get (places test (suc k) xs) i ≡ Some a → (suc k ≤ a) × (a < suc k + length xs))
+      (b : Bool) (i : ℕ) →
       slice_get (if b then k ∷ places test (suc k) xs else places test (suc k) xs) i ≡ Some a → (k ≤ a) × (a < k + suc (length xs))
   within_by k a xs rest false i e = let r = rest i e in (omega (arith, r.0), omega (arith, r.1))
   within_by k a xs rest true zero e = let same : k ≡ a = cc in (omega (arith, same), omega (arith, same))
@@ -27,8 +29,10 @@ module _ {X : Type 0} (test : X → Bool) where
   place_within k [] i a e = absurd (cc)
   place_within k (x ∷ xs) i a e = within_by k a xs (λ j. place_within (suc k) xs j a) (test x) i e
 
-  ascend_by : (k a b : ℕ) (xs : List X) (rest : (i : ℕ) → slice_get (places test (suc k) xs) i ≡ Some a → slice_get (places test (suc k) xs) (suc i) ≡ Some b → a < b) (t : Bool) (i : ℕ) →
-      slice_get (if t then k ∷ places test (suc k) xs else places test (suc k) xs) i ≡ Some a → slice_get (if t then k ∷ places test (suc k) xs else places test (suc k) xs) (suc i) ≡ Some b → a < b
+  ascend_by : (k a b : ℕ) (xs : List X) (rest : (i : ℕ) → slice_get (places test (suc k) xs) i ≡ Some a → slice_get (places test (suc k) xs) (suc
+      i) ≡ Some b → a < b) (t : Bool) (i : ℕ) →
+      slice_get (if t then k ∷ places test (suc k) xs else places test (suc k) xs) i ≡ Some a →
+      slice_get (if t then k ∷ places test (suc k) xs else places test (suc k) xs) (suc i) ≡ Some b → a < b
   ascend_by k a b xs rest false i e f = rest i e f
   ascend_by k a b xs rest true zero e f = let same : k ≡ a = cc in let r = place_within (suc k) xs 0 b f in omega (arith, same, r.0)
   ascend_by k a b xs rest true (suc i) e f = rest i e f
@@ -72,13 +76,16 @@ module _ (run : Run) (r : ℕ) (one_more : length run.configs ≡ suc (length ru
       let before = earlier i k f in let h = first_before first i before.0 e before.1 in let up = ascending i before.0 k before.1 f in
       omega (arith, h, up)
 
-  joined : (first i k : ℕ) → start run r 0 ≡ Some first → start run r i ≡ Some k → events_of_first run r (suc i) ≡ slice_range run.trace first (stop_from run k (start run r (suc i)))
-  joined first zero k e f = let same : first ≡ k = cc in iteration_is 0 k f ∙ ap (λ (j : ℕ). slice_range run.trace j (stop_from run k (start run r 1))) (sym same)
+  joined : (first i k : ℕ) → start run r 0 ≡ Some first → start run r i ≡ Some k → events_of_first run r (suc i) ≡ slice_range run.trace first
+      (stop_from run k (start run r (suc i)))
+  joined first zero k e f =
+      let same : first ≡ k = cc in iteration_is 0 k f ∙ ap (λ (j : ℕ). slice_range run.trace j (stop_from run k (start run r 1))) (sym same)
   joined first (suc i) k e f =
       let before = earlier i k f in
       let so_far = joined first i before.0 e before.1 ∙ ap (λ (o : Option ℕ). slice_range run.trace first (stop_from run before.0 o)) f in
       ap₂ (λ (xs ys : List Event). xs ++ ys) so_far (iteration_is (suc i) k f)
-      ∙ range_join run.trace first k (stop_from run k (start run r (suc (suc i)))) (first_before first (suc i) k e f) (stop_after (suc i) k f (start run r (suc (suc i))) refl)
+      ∙ range_join run.trace first k (stop_from run k (start run r (suc (suc i)))) (first_before first (suc i) k e f)
+      (stop_after (suc i) k f (start run r (suc (suc i))) refl)
 
 pub iterations_adjoin : (p : Program) (input : List ℤ) → IterationsAdjoin p input
 iterations_adjoin p input fuel c r = record {

@@ -19,4 +19,5 @@ any_more events more h = list_any-append is_leaving events more ∙ ap (λ (b : 
 
 pub closes_more : (events more : List Event) → closes events ≡ true → closes (events ++ more) ≡ true
 closes_more [] more h = absurd (cc)
-closes_more (event ∷ events) more h = elim (cases_Bool (decides_zero event.effect)) [ inl t ↦ rw t refl | inr t ↦ rw t (any_more (event ∷ events) more (rw t at h)) ]
+closes_more (event ∷ events) more h =
+    elim (cases_Bool (decides_zero event.effect)) [ inl t ↦ rw t refl | inr t ↦ rw t (any_more (event ∷ events) more (rw t at h)) ]

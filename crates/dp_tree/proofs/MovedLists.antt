@@ -1,5 +1,6 @@
 -- Lists that are moved: places, ranges and counts behind a front.
-use Rattle.std.proofs.Common.{◌≡◌, refl, sym, ap, ap₂, ◌∙◌, ℕ, zero, suc, ◌+◌, ◌-◌, ◌<◌, ◌≤◌, Bool, true, false, if◌then◌else◌, List, [], ◌∷◌, ◌++◌, length, take, drop, map, Option, Some, None, slice_get, inl, inr, slice_range, count_by, nat_lt, cond, lt-ltb, le-ltb, arith}
+use Rattle.std.proofs.Common.{◌≡◌, refl, sym, ap, ap₂, ◌∙◌, ℕ, zero, suc, ◌+◌, ◌-◌, ◌<◌, ◌≤◌, Bool, true, false, if◌then◌else◌, List, [], ◌∷◌, ◌++◌, length}
+use Rattle.std.proofs.Common.{take, drop, map, Option, Some, None, slice_get, inl, inr, slice_range, count_by, nat_lt, cond, lt-ltb, le-ltb, arith}
 use Rattle.std.specs.Option.{option_map}
 use Rattle.std.proofs.lemmas.Bool.{cases_lt}
 use Rattle.std.proofs.lemmas.List.{drop-drop}
@@ -36,17 +37,20 @@ module _ {X : Type 0} (test : X → Bool) where
     where
       one_more : (ns : List ℕ) → map (λ (n : ℕ). suc n) (map (λ (n : ℕ). k + n) ns) ≡ map (λ (n : ℕ). suc k + n) ns
       one_more [] = refl
-      one_more (n ∷ ns) = let e : suc (k + n) ≡ suc k + n = omega arith in ap (λ (m : ℕ). m ∷ map (λ (n : ℕ). suc n) (map (λ (n : ℕ). k + n) ns)) e ∙ ap (λ (ms : List ℕ). (suc k + n) ∷ ms) (one_more ns)
+      one_more (n ∷ ns) = let e : suc (k + n) ≡ suc k + n = omega arith in ap (λ (m : ℕ). m ∷ map (λ (n : ℕ). suc n) (map (λ (n : ℕ). k + n) ns)) e
+          ∙ ap (λ (ms : List ℕ). (suc k + n) ∷ ms) (one_more ns)
 
   pub places_split : (k : ℕ) (a b : List X) → places test k (a ++ b) ≡ places test k a ++ places test (k + length a) b
   places_split k [] b = let same : k ≡ k + 0 = omega arith in ap (λ (n : ℕ). places test n b) same
   places_split k (x ∷ a) b = by (places_split (suc k) a b) (test x)
     where
-      later : places test (suc k) (a ++ b) ≡ places test (suc k) a ++ places test (suc k + length a) b → places test (suc k) (a ++ b) ≡ places test (suc k) a ++ places test (k + suc (length a)) b
+      later : places test (suc k) (a ++ b) ≡ places test (suc k) a ++ places test (suc k + length a) b → places test (suc k) (a ++ b) ≡ places test (suc k) a
+          ++ places test (k + suc (length a)) b
       later go = let same : suc k + length a ≡ k + suc (length a) = omega arith in go ∙ ap (λ (n : ℕ). places test (suc k) a ++ places test n b) same
 
       by : places test (suc k) (a ++ b) ≡ places test (suc k) a ++ places test (suc k + length a) b →
-          (t : Bool) → (if t then k ∷ places test (suc k) (a ++ b) else places test (suc k) (a ++ b)) ≡ (if t then k ∷ places test (suc k) a else places test (suc k) a) ++ places test (k + suc (length a)) b
+          (t : Bool) → (if t then k ∷ places test (suc k) (a ++ b) else places test (suc k) (a ++ b)) ≡ (if t then k ∷ places test (suc k) a
+          else places test (suc k) a) ++ places test (k + suc (length a)) b
       by go true = ap (λ (ns : List ℕ). k ∷ ns) (later go)
       by go false = later go
 
@@ -59,7 +63,8 @@ module _ {X : Type 0} (test : X → Bool) where
       below = omega (arith, h)
 
       by : count_by (λ m. nat_lt m n) (places test (suc k) xs) ≡ length (places test (suc k) xs) →
-          (t : Bool) → count_by (λ m. nat_lt m n) (if t then k ∷ places test (suc k) xs else places test (suc k) xs) ≡ length (if t then k ∷ places test (suc k) xs else places test (suc k) xs)
+          (t : Bool) → count_by (λ m. nat_lt m n) (if t then k ∷ places test (suc k) xs else places test (suc k) xs) ≡ length
+          (if t then k ∷ places test (suc k) xs else places test (suc k) xs)
       by later true = omega (arith, count_next (λ m. nat_lt m n) k (places test (suc k) xs) true (lt-ltb k n below), later)
       by later false = later
 
@@ -67,7 +72,8 @@ module _ {X : Type 0} (test : X → Bool) where
   count_above n k [] h = refl
   count_above n k (x ∷ xs) h = by (count_above n (suc k) xs (omega (arith, h))) (test x)
     where
-      by : count_by (λ m. nat_lt m n) (places test (suc k) xs) ≡ 0 → (t : Bool) → count_by (λ m. nat_lt m n) (if t then k ∷ places test (suc k) xs else places test (suc k) xs) ≡ 0
+      by : count_by (λ m. nat_lt m n) (places test (suc k) xs) ≡ 0 → (t : Bool) →
+          count_by (λ m. nat_lt m n) (if t then k ∷ places test (suc k) xs else places test (suc k) xs) ≡ 0
       by later true = omega (arith, count_next (λ m. nat_lt m n) k (places test (suc k) xs) false (le-ltb k n h), later)
       by later false = later
 
@@ -81,23 +87,36 @@ module _ {X : Type 0} (test : X → Bool) where
   count_to k (x ∷ xs) i n e = by (λ j. count_to (suc k) xs j n) (test x) i e
     where
       by : ((j : ℕ) → slice_get (places test (suc k) xs) j ≡ Some n → Counted (suc k) j n (places test (suc k) xs)) →
-          (t : Bool) (i : ℕ) → slice_get (if t then k ∷ places test (suc k) xs else places test (suc k) xs) i ≡ Some n → Counted k i n (if t then k ∷ places test (suc k) xs else places test (suc k) xs)
+          (t : Bool) (i : ℕ) → slice_get (if t then k ∷ places test (suc k) xs else places test (suc k) xs) i ≡ Some n →
+          Counted k i n (if t then k ∷ places test (suc k) xs else places test (suc k) xs)
       by go true zero e =
-          let same : k ≡ n = cc in
-          (omega (arith, count_next (λ m. nat_lt m n) k (places test (suc k) xs) false (le-ltb k n (omega (arith, same))), count_above n (suc k) xs (omega (arith, same))), omega (arith, same))
+          let same : k ≡ n = cc in (
+            omega (
+              arith,
+              count_next (λ m. nat_lt m n) k (places test (suc k) xs) false (le-ltb k n (omega (arith, same))),
+              count_above n (suc k) xs (omega
+                  (arith, same)),
+            ),
+            omega (arith, same),
+          )
       by go true (suc i) e =
           let q = go i e in
           (omega (arith, count_next (λ m. nat_lt m n) k (places test (suc k) xs) true (lt-ltb k n (omega (arith, q.1))), q.0), omega (arith, q.1))
       by go false i e = let q = go i e in (q.0, omega (arith, q.1))
 
 pub same_test : (k m n : ℕ) → nat_lt (k + m) (k + n) ≡ nat_lt m n
-same_test k m n = elim (cases_lt m n) [ inl h ↦ lt-ltb (k + m) (k + n) (omega (arith, h)) ∙ sym (lt-ltb m n h) | inr h ↦ le-ltb (k + m) (k + n) (omega (arith, h)) ∙ sym (le-ltb m n h) ]
+same_test k m n = elim (cases_lt m n) [
+  | inl h ↦ lt-ltb (k + m) (k + n) (omega (arith, h)) ∙ sym (lt-ltb m n h)
+  | inr h ↦
+      le-ltb (k + m) (k + n) (omega (arith, h)) ∙ sym (le-ltb m n h)
+]
 
 -- numbers that are moved are below the moved bound where they were below the bound
 pub count_moved : (k n : ℕ) (ns : List ℕ) → count_by (λ m. nat_lt m (k + n)) (map (λ (m : ℕ). k + m) ns) ≡ count_by (λ m. nat_lt m n) ns
 count_moved k n [] = refl
 count_moved k n (m ∷ ns) =
-    sum_by-cons (λ (i : ℕ). cond (nat_lt i (k + n)) 1 0) (k + m) (map (λ (i : ℕ). k + i) ns) ∙ ap₂ (λ (b : Bool) (i : ℕ). cond b 1 0 + i) (same_test k m n) (count_moved k n ns)
+    sum_by-cons (λ (i : ℕ). cond (nat_lt i (k + n)) 1 0) (k + m) (map (λ (i : ℕ). k + i) ns) ∙ ap₂ (λ (b : Bool) (i : ℕ). cond b 1 0 + i) (same_test k m n)
+    (count_moved k n ns)
     ∙ sym (sum_by-cons (λ (i : ℕ). cond (nat_lt i n) 1 0) m ns)
 
 pub moved_map : (k : ℕ) (o : Option ℕ) → option_map (λ (n : ℕ). k + n) o ≡ moved k o

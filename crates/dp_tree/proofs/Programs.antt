@@ -6,7 +6,8 @@ use Rattle.dp_tree.specs.declared.SiteKind.TheVariants.{Assign, Print, If, While
 use Rattle.dp_tree.specs.declared.Program.{Program}
 use Rattle.dp_tree.specs.declared.Expr.{Expr}
 use Rattle.dp_tree.specs.declared.Expr.TheVariants as tree
-use Rattle.dp_tree.proofs.Build.{num, var, at, bin, set, set_at, say, when, loop, region, call, scalar, array, site, one_region, function, program, with_functions}
+use Rattle.dp_tree.proofs.Build.{num, var, at, bin, set, set_at, say, when, loop, region, call, scalar, array, site, one_region, function, program}
+use Rattle.dp_tree.proofs.Build.{with_functions}
 
 abbrev pub add : Expr → Expr → Expr
 add a b = bin op.Add a b
@@ -202,16 +203,20 @@ abbrev pub word_table : Program
 word_table = with_functions
     (function (9 ∷ 10 ∷ []) (set_at 18 1 (var 9) (add (at 1 (var 9)) (num 1)) ∷ set 19 3 (add (var 3) (var 10)) ∷ []) ∷ [])
     (program
-    (array 0 16 ∷ array 16 16 ∷ scalar 32 (pos 0) Global ∷ scalar 33 (pos 0) Global ∷ scalar 34 (pos 0) Outer ∷ scalar 35 (pos 0) (Body 1) ∷ scalar 36 (pos 0) (Body 1)
+    (array 0 16 ∷ array 16 16 ∷ scalar 32 (pos 0) Global ∷ scalar 33 (pos 0) Global ∷ scalar 34 (pos 0) Outer ∷ scalar 35 (pos 0) (Body 1)
+    ∷ scalar 36 (pos 0) (Body 1)
     ∷ scalar 37 (pos 0) (Body 1) ∷ scalar 38 (pos 0) (Body 1) ∷ scalar 39 (pos 0) Outer ∷ scalar 40 (pos 0) Outer ∷ [])
-    (site 12 Assign 0 ∷ site 14 While 1 ∷ site 15 Assign 1 ∷ site 16 Assign 1 ∷ site 18 Assign 1 ∷ site 19 Assign 1 ∷ site 20 While 1 ∷ site 21 Assign 1 ∷ site 22 Assign 1
-    ∷ site 25 Assign 1 ∷ site 26 While 1 ∷ site 27 Assign 1 ∷ site 29 If 1 ∷ site 30 Assign 1 ∷ site 31 Assign 1 ∷ site 35 Print 0 ∷ site 36 Print 0 ∷ site 7 Assign 0 ∷ site 8 Assign 0 ∷ [])
+    (site 12 Assign 0 ∷ site 14 While 1 ∷ site 15 Assign 1 ∷ site 16 Assign 1 ∷ site 18 Assign 1 ∷ site 19 Assign 1 ∷ site 20 While 1
+    ∷ site 21 Assign 1 ∷ site 22 Assign 1
+    ∷ site 25 Assign 1 ∷ site 26 While 1 ∷ site 27 Assign 1 ∷ site 29 If 1 ∷ site 30 Assign 1 ∷ site 31 Assign 1 ∷ site 35 Print 0 ∷ site 36 Print 0
+    ∷ site 7 Assign 0 ∷ site 8 Assign 0 ∷ [])
     (one_region 14 2 15)
     (set 1 4 (num 0) ∷ region 1 2 (bin op.Lt (var 4) tree.InputLen)
     (set 3 5 (tree.Input (var 4)) ∷ set 4 4 (add (var 4) (num 1)) ∷ set 5 6 (var 5) ∷ set 6 7 (num 0)
     ∷ loop 7 (bin op.Lt (var 7) (num 3)) (set 8 6 (bin op.Rem (add (bin op.Mul (var 6) (num 5)) (num 3)) (num 16)) ∷ set 9 7 (add (var 7) (num 1)) ∷ [])
     ∷ set 10 8 (var 6)
-    ∷ loop 11 (tree.And (bin op.Ne (at 0 (var 8)) (num 0)) (bin op.Ne (at 0 (var 8)) (add (var 5) (num 1)))) (set 12 8 (bin op.Rem (add (var 8) (num 1)) (num 16)) ∷ [])
+    ∷ loop 11 (tree.And (bin op.Ne (at 0 (var 8)) (num 0)) (bin op.Ne (at 0 (var 8)) (add (var 5) (num 1))))
+    (set 12 8 (bin op.Rem (add (var 8) (num 1)) (num 16)) ∷ [])
     ∷ when 13 (bin op.Eq (at 0 (var 8)) (num 0)) (set_at 14 0 (var 8) (add (var 5) (num 1)) ∷ set 15 2 (add (var 2) (num 1)) ∷ [])
     ∷ call 0 33 (var 8 ∷ var 5 ∷ []) ∷ [])
     ∷ say 16 (var 2) ∷ say 17 (var 3) ∷ []))
@@ -219,17 +224,21 @@ word_table = with_functions
 -- the same with its call expanded: `count`'s parameters are body locals of the region
 abbrev pub word_table_expanded : Program
 word_table_expanded = program
-    (array 0 16 ∷ array 16 16 ∷ scalar 32 (pos 0) Global ∷ scalar 33 (pos 0) Global ∷ scalar 34 (pos 0) Outer ∷ scalar 35 (pos 0) (Body 1) ∷ scalar 36 (pos 0) (Body 1)
+    (array 0 16 ∷ array 16 16 ∷ scalar 32 (pos 0) Global ∷ scalar 33 (pos 0) Global ∷ scalar 34 (pos 0) Outer ∷ scalar 35 (pos 0) (Body 1)
+    ∷ scalar 36 (pos 0) (Body 1)
     ∷ scalar 37 (pos 0) (Body 1) ∷ scalar 38 (pos 0) (Body 1) ∷ scalar 39 (pos 0) (Body 1) ∷ scalar 40 (pos 0) (Body 1) ∷ [])
-    (site 12 Assign 0 ∷ site 14 While 1 ∷ site 15 Assign 1 ∷ site 16 Assign 1 ∷ site 18 Assign 1 ∷ site 19 Assign 1 ∷ site 20 While 1 ∷ site 21 Assign 1 ∷ site 22 Assign 1
-    ∷ site 25 Assign 1 ∷ site 26 While 1 ∷ site 27 Assign 1 ∷ site 29 If 1 ∷ site 30 Assign 1 ∷ site 31 Assign 1 ∷ site 33 Assign 1 ∷ site 33 Assign 1 ∷ site 7 Assign 1 ∷ site 8 Assign 1
+    (site 12 Assign 0 ∷ site 14 While 1 ∷ site 15 Assign 1 ∷ site 16 Assign 1 ∷ site 18 Assign 1 ∷ site 19 Assign 1 ∷ site 20 While 1
+    ∷ site 21 Assign 1 ∷ site 22 Assign 1
+    ∷ site 25 Assign 1 ∷ site 26 While 1 ∷ site 27 Assign 1 ∷ site 29 If 1 ∷ site 30 Assign 1 ∷ site 31 Assign 1 ∷ site 33 Assign 1 ∷ site 33 Assign 1
+    ∷ site 7 Assign 1 ∷ site 8 Assign 1
     ∷ site 35 Print 0 ∷ site 36 Print 0 ∷ [])
     (one_region 14 2 19)
     (set 1 4 (num 0) ∷ region 1 2 (bin op.Lt (var 4) tree.InputLen)
     (set 3 5 (tree.Input (var 4)) ∷ set 4 4 (add (var 4) (num 1)) ∷ set 5 6 (var 5) ∷ set 6 7 (num 0)
     ∷ loop 7 (bin op.Lt (var 7) (num 3)) (set 8 6 (bin op.Rem (add (bin op.Mul (var 6) (num 5)) (num 3)) (num 16)) ∷ set 9 7 (add (var 7) (num 1)) ∷ [])
     ∷ set 10 8 (var 6)
-    ∷ loop 11 (tree.And (bin op.Ne (at 0 (var 8)) (num 0)) (bin op.Ne (at 0 (var 8)) (add (var 5) (num 1)))) (set 12 8 (bin op.Rem (add (var 8) (num 1)) (num 16)) ∷ [])
+    ∷ loop 11 (tree.And (bin op.Ne (at 0 (var 8)) (num 0)) (bin op.Ne (at 0 (var 8)) (add (var 5) (num 1))))
+    (set 12 8 (bin op.Rem (add (var 8) (num 1)) (num 16)) ∷ [])
     ∷ when 13 (bin op.Eq (at 0 (var 8)) (num 0)) (set_at 14 0 (var 8) (add (var 5) (num 1)) ∷ set 15 2 (add (var 2) (num 1)) ∷ [])
     ∷ set 16 9 (var 8) ∷ set 17 10 (var 5) ∷ set_at 18 1 (var 9) (add (at 1 (var 9)) (num 1)) ∷ set 19 3 (add (var 3) (var 10)) ∷ [])
     ∷ say 20 (var 2) ∷ say 21 (var 3) ∷ [])

@@ -1,5 +1,6 @@
 -- A region's events are those of its iterations.
-use Rattle.std.proofs.Common.{◌≡◌, refl, sym, ap, ap₂, ◌∙◌, ℕ, zero, suc, ◌+◌, ◌-◌, ◌<◌, Bool, true, false, List, [], ◌∷◌, ◌++◌, ℤ, length, get_or, take, drop, filter, Option, Some, None, slice_get, slice_range, append-nil, inl, inr, arith}
+use Rattle.std.proofs.Common.{◌≡◌, refl, sym, ap, ap₂, ◌∙◌, ℕ, zero, suc, ◌+◌, ◌-◌, ◌<◌, Bool, true, false, List, [], ◌∷◌, ◌++◌, ℤ, length, get_or, take, drop}
+use Rattle.std.proofs.Common.{filter, Option, Some, None, slice_get, slice_range, append-nil, inl, inr, arith}
 use Rattle.std.proofs.Math.Seq.{drop-append_seam, take-append_seam}
 use Rattle.std.proofs.lemmas.List.Elements.{filter-append}
 use Rattle.std.proofs.lemmas.Option.{slice_get_past, slice_get-get_or}
@@ -15,7 +16,8 @@ use Rattle.dp_tree.specs.Iteration.{begins_with, stands_at_head, places, starts,
 use Rattle.dp_tree.specs.IterationLaws.{events_of_first, AreAdjacent}
 use Rattle.dp_tree.specs.RegionLaws.{is_other_site, keeps, StandsOnce, is_event_of, RegionsAreIterations}
 use Rattle.dp_tree.proofs.IterationLaws.{iterations_adjoin}
-use Rattle.dp_tree.proofs.Heads.{and_true, keeps_all, keeps_at, keeps_out, keeps_followed, no_region, followed-append, keeps_behind, taken, taken_left, left-append, stepped, standing_to_do}
+use Rattle.dp_tree.proofs.Heads.{and_true, keeps_all, keeps_at, keeps_out, keeps_followed, no_region, followed-append, keeps_behind, taken, taken_left}
+use Rattle.dp_tree.proofs.Heads.{left-append, stepped, standing_to_do}
 use Rattle.dp_tree.proofs.InsideRegion.{Inside, Quiet, quiet, region_out, left_out, skip, meet, at_region, later_stop, still_none, inside}
 use Rattle.dp_tree.proofs.Places.{place_down}
 
@@ -42,7 +44,8 @@ module _ (p : Program) (input : List ℤ) (r : ℕ) (once : StandsOnce p r) wher
     all_own : only own ≡ own
     none_behind : only behind ≡ []
     first : (k : ℕ) → slice_get (places here 0 run.configs) 0 ≡ Some k → length before ≡ k
-    stops : (i k : ℕ) → slice_get (places here 0 run.configs) i ≡ Some k → slice_get (places here 0 run.configs) (suc i) ≡ None → stop_from run k None ≡ length before + length own
+    stops : (i k : ℕ) → slice_get (places here 0 run.configs) i ≡ Some k → slice_get (places here 0 run.configs) (suc i) ≡ None →
+        stop_from run k None ≡ length before + length own
     unreached : places here 0 run.configs ≡ [] → own ≡ []
 
   -- at the region
@@ -92,7 +95,9 @@ module _ (p : Program) (input : List ℤ) (r : ℕ) (once : StandsOnce p r) wher
     all_own = h.all_own;
     none_behind = h.none_behind;
     first = λ k e. first k (sym (ap (λ (ns : List ℕ). slice_get ns 0) off_places) ∙ e);
-    stops = λ i k e f. later_stop p input r once fuel c event run (length h.before + length h.own) i k h.stops (sym (ap (λ (ns : List ℕ). slice_get ns i) off_places) ∙ e) (sym (ap (λ (ns : List ℕ). slice_get ns (suc i)) off_places) ∙ f) ∙ one_more (length h.before) (length h.own);
+    stops = λ i k e f. later_stop p input r once fuel c event run (length h.before + length h.own) i k h.stops
+        (sym (ap (λ (ns : List ℕ). slice_get ns i) off_places) ∙ e) (sym (ap (λ (ns : List ℕ). slice_get ns (suc i)) off_places) ∙ f)
+        ∙ one_more (length h.before) (length h.own);
     unreached = λ e. h.unreached (still_none p input r once run.configs (sym off_places ∙ e));
   }
     where
@@ -103,7 +108,8 @@ module _ (p : Program) (input : List ℤ) (r : ℕ) (once : StandsOnce p r) wher
       one_more a b = omega arith
 
   -- an event that passes the region by
-  passes_by : (fuel : ℕ) (c : Config) (event : Event) (run : Run) → others event.site ≡ true → here c ≡ false → Quiet p input r once run → Reached (extended fuel c event run)
+  passes_by : (fuel : ℕ) (c : Config) (event : Event) (run : Run) → others event.site ≡ true → here c ≡ false → Quiet p input r once run →
+      Reached (extended fuel c event run)
   passes_by fuel c event run is off q = let nowhere = skip p input r once c 0 run.configs off ∙ q.no_start 1 in record {
     before = event ∷ [];
     own = [];
@@ -120,8 +126,10 @@ module _ (p : Program) (input : List ℤ) (r : ℕ) (once : StandsOnce p r) wher
   region_left : behind_region (region ∷ once.behind) ≡ once.behind
   region_left = ap (λ (u : Stmt-F Stmt). behind_one (region_number u) once.behind (behind_region once.behind)) (region_out p input r once)
 
-  reached_by : (n : ℕ) (c : Config) (x : Stmt) (xs : List Stmt) (go : (d : Config) (ys : List Stmt) → d.to_do ≡ ys ++ region ∷ once.behind → keeps_all others r ys ≡ true → Reached (run_of p input n d)) (s : Step) →
-      step p input c ≡ s → c.to_do ≡ x ∷ xs ++ region ∷ once.behind → keeps_all others r (x ∷ xs) ≡ true → here c ≡ false → Reached (run_by (run_of p input n) (suc n) c s)
+  reached_by : (n : ℕ) (c : Config) (x : Stmt) (xs : List Stmt)
+      (go : (d : Config) (ys : List Stmt) → d.to_do ≡ ys ++ region ∷ once.behind → keeps_all others r ys ≡ true → Reached (run_of p input n d)) (s : Step) →
+      step p input c ≡ s → c.to_do ≡ x ∷ xs ++ region ∷ once.behind → keeps_all others r (x ∷ xs) ≡ true → here c ≡ false →
+      Reached (run_by (run_of p input n) (suc n) c s)
   reached_by n c x xs go (Stepped event next) e todo h off =
       let both = and_true (keeps others r x) (keeps_all others r xs) h in
       let head : keeps_at others r (out-Stmt x) ≡ true = sym (keeps_out others r x) ∙ both.0 in
@@ -140,7 +148,8 @@ module _ (p : Program) (input : List ℤ) (r : ℕ) (once : StandsOnce p r) wher
                   passes_by (suc n) c event (run_of p input n next) mine off (quiet p input r once n next (ap (keeps_all others r) todo_next ∙ once.later))
             ]
         | inr t ↦
-            let rest : next.to_do ≡ followed x xs (out-Stmt x) (value_of event.effect) ++ region ∷ once.behind = st.to_do ∙ followed-append x xs (region ∷ once.behind) (out-Stmt x) (value_of event.effect) t in
+            let rest : next.to_do ≡ followed x xs (out-Stmt x) (value_of event.effect) ++ region ∷ once.behind = st.to_do
+            ∙ followed-append x xs (region ∷ once.behind) (out-Stmt x) (value_of event.effect) t in
             goes_on (suc n) c event (run_of p input n next) mine off (go next (followed x xs (out-Stmt x) (value_of event.effect)) rest kept)
       ]
   reached_by n c x xs go _ e todo h off = waits (suc n) c _ off
@@ -155,11 +164,13 @@ module _ (p : Program) (input : List ℤ) (r : ℕ) (once : StandsOnce p r) wher
       by _ = ([], refl)
 
   not_yet : (c : Config) (x : Stmt) (xs : List Stmt) → c.to_do ≡ x ∷ xs ++ region ∷ once.behind → keeps_all others r (x ∷ xs) ≡ true → here c ≡ false
-  not_yet c x xs e h = ap (begins_with r) e ∙ no_region others r (out-Stmt x) (sym (keeps_out others r x) ∙ (and_true (keeps others r x) (keeps_all others r xs) h).0)
+  not_yet c x xs e h =
+      ap (begins_with r) e ∙ no_region others r (out-Stmt x) (sym (keeps_out others r x) ∙ (and_true (keeps others r x) (keeps_all others r xs) h).0)
 
   reached : (n : ℕ) (c : Config) (xs : List Stmt) → c.to_do ≡ xs ++ region ∷ once.behind → keeps_all others r xs ≡ true → Reached (run_of p input n c)
   unfolding run_of
-  reached n c [] e h = let front = first_of_run n c in arrives c (run_of p input n c) (at_region p input r once c once.behind e) front.0 front.1 (inside p input r once n c [] e refl refl)
+  reached n c [] e h = let front = first_of_run n c in
+      arrives c (run_of p input n c) (at_region p input r once c once.behind e) front.0 front.1 (inside p input r once n c [] e refl refl)
   reached zero c (x ∷ xs) e h = waits 0 c _ (not_yet c x xs e h)
   reached (suc n) c (x ∷ xs) e h = reached_by n c x xs (reached n) (step p input c) refl e h (not_yet c x xs e h)
 
@@ -174,7 +185,8 @@ module _ (p : Program) (input : List ℤ) (r : ℕ) (once : StandsOnce p r) wher
     middle : (a own behind : List Event) → slice_range (a ++ (own ++ behind)) (length a) (length a + length own) ≡ own
     middle a own behind =
         let size : (length a + length own) - length a ≡ length own = omega arith in
-        ap (λ (n : ℕ). take n (drop (length a) (a ++ (own ++ behind)))) size ∙ ap (λ (es : List Event). take (length own) es) (drop-append_seam a (own ++ behind)) ∙ take-append_seam own behind
+        ap (λ (n : ℕ). take n (drop (length a) (a ++ (own ++ behind)))) size
+        ∙ ap (λ (es : List Event). take (length own) es) (drop-append_seam a (own ++ behind)) ∙ take-append_seam own behind
 
     joined_own : (ns : List ℕ) → starts run r ≡ ns → h.own ≡ events_of_first run r (length ns)
     joined_own [] e = h.unreached e
@@ -182,7 +194,8 @@ module _ (p : Program) (input : List ℤ) (r : ℕ) (once : StandsOnce p r) wher
         let k = get_or (n ∷ ns) (length ns) 0 in let inner : length ns < length (n ∷ ns) = omega arith in
         let first_at : start run r 0 ≡ Some n = ap (λ (xs : List ℕ). slice_get xs 0) e in
         let last_at : start run r (length ns) ≡ Some k = ap (λ (xs : List ℕ). slice_get xs (length ns)) e ∙ slice_get-get_or (n ∷ ns) (length ns) 0 inner in
-        let past : start run r (suc (length ns)) ≡ None = ap (λ (xs : List ℕ). slice_get xs (suc (length ns))) e ∙ slice_get_past (n ∷ ns) (suc (length ns)) (omega arith) in
+        let past : start run r (suc (length ns)) ≡ None = ap (λ (xs : List ℕ). slice_get xs (suc (length ns))) e
+        ∙ slice_get_past (n ∷ ns) (suc (length ns)) (omega arith) in
         sym (adjacent.joined n (length ns) k first_at last_at
         ∙ ap (λ (o : Option ℕ). slice_range run.trace n (stop_from run k o)) past
         ∙ ap (λ (m : ℕ). slice_range run.trace n m) (h.stops (length ns) k last_at past)

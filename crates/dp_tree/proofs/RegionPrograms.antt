@@ -21,7 +21,8 @@ early_exit = program
     (site 4 Assign 0 ∷ site 4 While 1 ∷ site 5 Assign 1 ∷ site 6 Break 1 ∷ site 7 Assign 1 ∷ site 4 Assign 1 ∷ [])
     (one_region 4 2 6)
     (set 1 1 (num 0) ∷ region 1 2 (bin op.Lt (var 1) tree.InputLen)
-    (set 3 2 (tree.Input (var 1)) ∷ stmt.Break (record { 0 = 4 }) (bin op.Lt (var 2) (num 0)) ∷ set 5 0 (add (var 0) (var 2)) ∷ set 6 1 (add (var 1) (num 1)) ∷ []) ∷ [])
+    (set 3 2 (tree.Input (var 1)) ∷ stmt.Break (record { 0 = 4 }) (bin op.Lt (var 2) (num 0)) ∷ set 5 0 (add (var 0) (var 2))
+    ∷ set 6 1 (add (var 1) (num 1)) ∷ []) ∷ [])
 
 -- 1  int a[9];
 -- 2  int s;
@@ -34,10 +35,12 @@ early_exit = program
 abbrev pub far_reads : Program
 far_reads = program
     (array 0 9 ∷ scalar 9 (pos 0) Global ∷ scalar 10 (pos 0) Outer ∷ [])
-    (site 4 Assign 0 ∷ site 5 Assign 0 ∷ site 7 While 1 ∷ site 8 Assign 1 ∷ site 9 Assign 1 ∷ site 10 Assign 1 ∷ site 11 Assign 1 ∷ site 12 Assign 1 ∷ site 13 Assign 1 ∷ [])
+    (site 4 Assign 0 ∷ site 5 Assign 0 ∷ site 7 While 1 ∷ site 8 Assign 1 ∷ site 9 Assign 1 ∷ site 10 Assign 1 ∷ site 11 Assign 1 ∷ site 12 Assign 1
+    ∷ site 13 Assign 1 ∷ [])
     (one_region 7 3 9)
     (set 1 2 (num 0) ∷ set_at 2 0 (num 3) (num 7) ∷ region 1 3 (bin op.Lt (var 2) (num 8))
-    (set 4 1 (add (var 1) (at 0 (add (var 2) (num 1)))) ∷ set 5 1 (add (var 1) (at 0 (add (var 2) (num 1)))) ∷ set 6 1 (add (var 1) (at 0 (add (var 2) (num 1)))) ∷ set 7 1 (add (var 1) (at 0 (add (var 2) (num 1))))
+    (set 4 1 (add (var 1) (at 0 (add (var 2) (num 1)))) ∷ set 5 1 (add (var 1) (at 0 (add (var 2) (num 1))))
+    ∷ set 6 1 (add (var 1) (at 0 (add (var 2) (num 1)))) ∷ set 7 1 (add (var 1) (at 0 (add (var 2) (num 1))))
     ∷ set_at 8 0 (var 2) (add (var 2) (num 1)) ∷ set 9 2 (add (var 2) (num 1)) ∷ []) ∷ [])
 
 -- 1  int a[5];
@@ -52,4 +55,5 @@ near_reads = program
     (array 0 5 ∷ scalar 5 (pos 0) Global ∷ scalar 6 (pos 0) Outer ∷ [])
     (site 4 Assign 0 ∷ site 6 While 1 ∷ site 7 Assign 1 ∷ site 8 Assign 1 ∷ site 9 Assign 1 ∷ [])
     (one_region 6 2 5)
-    (set 1 2 (num 0) ∷ region 1 2 (bin op.Lt (var 2) (num 4)) (set 3 1 (add (var 1) (at 0 (var 2))) ∷ set 4 2 (add (var 2) (num 1)) ∷ set_at 5 0 (var 2) (num 7) ∷ []) ∷ [])
+    (set 1 2 (num 0) ∷ region 1 2 (bin op.Lt (var 2) (num 4)) (set 3 1 (add (var 1) (at 0 (var 2))) ∷ set 4 2 (add (var 2) (num 1))
+    ∷ set_at 5 0 (var 2) (num 7) ∷ []) ∷ [])

@@ -68,10 +68,12 @@ module _ (p : Program) (input : List ℤ) where
       left = omega arith
 
       ends : (d : Config) → slice_get (c ∷ []) 0 ≡ Some d → EndsAt p input (fuel - 0) d end
-      ends d e = Rattle.std.proofs.Common.subst (λ (k : ℕ). EndsAt p input k d end) left (Rattle.std.proofs.Common.subst (λ (x : Config). EndsAt p input fuel x end) (same d e) why)
+      ends d e = Rattle.std.proofs.Common.subst (λ (k : ℕ). EndsAt p input k d end) left
+          (Rattle.std.proofs.Common.subst (λ (x : Config). EndsAt p input fuel x end) (same d e) why)
 
   -- one step more
-  grows : (fuel : ℕ) (c next : Config) (event : Event) (run : Run) → step p input c ≡ Stepped event next → GoesByStep p input fuel next run → GoesByStep p input (suc fuel) c (extended (suc fuel) c event run)
+  grows : (fuel : ℕ) (c next : Config) (event : Event) (run : Run) → step p input c ≡ Stepped event next → GoesByStep p input fuel next run →
+      GoesByStep p input (suc fuel) c (extended (suc fuel) c event run)
   grows fuel c next event run e h = record {
     kept = refl;
     steps_within = omega (arith, h.steps_within);
@@ -84,14 +86,16 @@ module _ (p : Program) (input : List ℤ) where
       left : fuel - length run.trace ≡ suc fuel - suc (length run.trace)
       left = omega arith
 
-      each : (k : ℕ) (before after : Config) (event' : Event) → slice_get (c ∷ run.configs) k ≡ Some before → slice_get (event ∷ run.trace) k ≡ Some event' → slice_get (c ∷ run.configs) (suc k) ≡ Some after →
+      each : (k : ℕ) (before after : Config) (event' : Event) → slice_get (c ∷ run.configs) k ≡ Some before → slice_get (event ∷ run.trace) k ≡ Some event' →
+          slice_get (c ∷ run.configs) (suc k) ≡ Some after →
           step p input before ≡ Stepped event' after
       each zero before after event' b v a =
           let c_is : c ≡ before = cc (b) in let event_is : event ≡ event' = cc (v) in let next_is : next ≡ after = cc (a, h.first) in
           sym (ap (λ (x : Config). step p input x) c_is) ∙ e ∙ ap (λ (x : Event). Stepped x next) event_is ∙ ap (λ (x : Config). Stepped event' x) next_is
       each (suc k) before after event' b v a = h.each k before after event' b v a
 
-  goes_by : (n : ℕ) (c : Config) (go : (d : Config) → GoesByStep p input n d (run_of p input n d)) (s : Step) → step p input c ≡ s → GoesByStep p input (suc n) c (run_by (run_of p input n) (suc n) c s)
+  goes_by : (n : ℕ) (c : Config) (go : (d : Config) → GoesByStep p input n d (run_of p input n d)) (s : Step) → step p input c ≡ s →
+      GoesByStep p input (suc n) c (run_by (run_of p input n) (suc n) c s)
   goes_by n c go Finished e = stays (suc n) c Done e
   goes_by n c go (Faulted fault) e = stays (suc n) c (Fault fault) (omega arith, e)
   goes_by n c go (Stepped event next) e = grows n c next event (run_of p input n next) e (go next)

@@ -33,7 +33,8 @@ unfolding opened_statement
 roles_hidden r [] = refl
 roles_hidden r (x ∷ xs) = ap (λ (ks : List (SiteKind × ℕ)). site_roles r x ++ ks) (roles_hidden r xs)
 
-pub roles-If : (r : ℕ) (site : SiteId) (cond : Expr) (a b : List Stmt) → site_roles r (tree.If site cond a b) ≡ (kind.If, r) ∷ (site_roles_all r a ++ site_roles_all r b)
+pub roles-If : (r : ℕ) (site : SiteId) (cond : Expr) (a b : List Stmt) → site_roles r (tree.If site cond a b) ≡ (kind.If, r)
+    ∷ (site_roles_all r a ++ site_roles_all r b)
 unfolding opened_statement
 roles-If r site cond a b = λ i. (kind.If, r) ∷ (roles_hidden r a i ++ roles_hidden r b i)
 
@@ -47,4 +48,5 @@ roles-Region r q site cond a = λ i. (kind.While, q) ∷ roles_hidden q a i
 
 pub roles_both : (r : ℕ) (a b : List Stmt) → site_roles_all r (a ++ b) ≡ site_roles_all r a ++ site_roles_all r b
 roles_both r [] b = refl
-roles_both r (x ∷ a) b = ap (λ (ks : List (SiteKind × ℕ)). site_roles r x ++ ks) (roles_both r a b) ∙ sym (append_assoc (site_roles r x) (site_roles_all r a) (site_roles_all r b))
+roles_both r (x ∷ a) b =
+    ap (λ (ks : List (SiteKind × ℕ)). site_roles r x ++ ks) (roles_both r a b) ∙ sym (append_assoc (site_roles r x) (site_roles_all r a) (site_roles_all r b))

@@ -14,11 +14,13 @@ use Rattle.std.proofs.lemmas.Bool.{not-true}
 
 -- what opens where a statement is made
 unfoldable pub opened_statement : Unit {0}
-unfolding Rattle.dp_tree.specs.declared.Stmt.TheBlock.shape-the_row-Stmt-0 Rattle.dp_tree.specs.declared.Stmt.TheBlock.hidden-the_row-Stmt-0 denote.Hole.Carrier.hidden
+unfolding Rattle.dp_tree.specs.declared.Stmt.TheBlock.shape-the_row-Stmt-0 Rattle.dp_tree.specs.declared.Stmt.TheBlock.hidden-the_row-Stmt-0
+    denote.Hole.Carrier.hidden
 opened_statement = tt
 
 -- a test of all that stands in a row
-pub everywhere_hidden : (test : Stmt → Bool) (xs : List Stmt) → everywhere_in test (Rattle.dp_tree.specs.declared.Stmt.TheBlock.hidden-the_row-Stmt-0 xs) ≡ list_all (everywhere test) xs
+pub everywhere_hidden : (test : Stmt → Bool) (xs : List Stmt) → everywhere_in test (Rattle.dp_tree.specs.declared.Stmt.TheBlock.hidden-the_row-Stmt-0 xs)
+    ≡ list_all (everywhere test) xs
 unfolding opened_statement
 everywhere_hidden test [] = refl
 everywhere_hidden test (x ∷ xs) = ap (λ (b : Bool). everywhere test x && b) (everywhere_hidden test xs)
@@ -48,7 +50,8 @@ module _ (test : ℕ → Bool) (r : ℕ) where
   keeps_roll (Assign site x e) = ap (keeps test r) (rolls-Assign site x e)
   keeps_roll (Store site x index e) = ap (keeps test r) (rolls-Store site x index e)
   keeps_roll (Print site e) = ap (keeps test r) (rolls-Print site e)
-  keeps_roll (If site cond a b) = ap (keeps test r) (rolls-If site cond a b) ∙ ap (λ (u : Bool). test site.0 && (u && hidden_keeps test r b)) (keeps_hidden a) ∙ ap (λ (u : Bool). test site.0 && (keeps_all a && u)) (keeps_hidden b)
+  keeps_roll (If site cond a b) = ap (keeps test r) (rolls-If site cond a b) ∙ ap (λ (u : Bool). test site.0 && (u && hidden_keeps test r b)) (keeps_hidden a)
+      ∙ ap (λ (u : Bool). test site.0 && (keeps_all a && u)) (keeps_hidden b)
   keeps_roll (While site cond a) = ap (keeps test r) (rolls-While site cond a) ∙ ap (λ (u : Bool). test site.0 && u) (keeps_hidden a)
   keeps_roll (Region q site cond a) = ap (keeps test r) (rolls-Region q site cond a) ∙ ap (λ (u : Bool). (test site.0 && not (q == r)) && u) (keeps_hidden a)
   keeps_roll (Break site cond) = ap (keeps test r) (rolls-Break site cond)
@@ -59,7 +62,8 @@ module _ (test : ℕ → Bool) (r : ℕ) where
 
   pub keeps-append : (a b : List Stmt) → keeps_all a ≡ true → keeps_all b ≡ true → keeps_all (a ++ b) ≡ true
   keeps-append [] b h k = k
-  keeps-append (x ∷ a) b h k = let both = and_true (keeps test r x) (keeps_all a) h in and_make (keeps test r x) (keeps_all (a ++ b)) both.0 (keeps-append a b both.1 k)
+  keeps-append (x ∷ a) b h k = let both = and_true (keeps test r x) (keeps_all a) h in
+      and_make (keeps test r x) (keeps_all (a ++ b)) both.0 (keeps-append a b both.1 k)
 
   keeps_choose : (z : ℤ) (a b : List Stmt) → keeps_all a ≡ true → keeps_all b ≡ true → keeps_all (choose z a b) ≡ true
   keeps_choose z a b h k = by (is_zero z)
@@ -78,14 +82,17 @@ module _ (test : ℕ → Bool) (r : ℕ) where
       by (Some q) later = (and_true (keeps test r x) (keeps_all rest) k).1
 
   -- what follows a statement has no other sites
-  pub keeps_followed : (x : Stmt) (rest : List Stmt) (h : Stmt-F Stmt) (z : ℤ) → keeps test r x ≡ true → keeps_at h ≡ true → keeps_all rest ≡ true → keeps_all (followed x rest h z) ≡ true
+  pub keeps_followed : (x : Stmt) (rest : List Stmt) (h : Stmt-F Stmt) (z : ℤ) → keeps test r x ≡ true → keeps_at h ≡ true → keeps_all rest ≡ true →
+      keeps_all (followed x rest h z) ≡ true
   keeps_followed x rest (If site cond a b) z w h k =
       let both = and_true (keeps_all a) (keeps_all b) (and_true (test site.0) (keeps_all a && keeps_all b) h).1 in
       keeps-append (choose z a b) rest (keeps_choose z a b both.0 both.1) k
   keeps_followed x rest (While site cond a) z w h k =
-      keeps_choose z (a ++ x ∷ rest) rest (keeps-append a (x ∷ rest) (and_true (test site.0) (keeps_all a) h).1 (and_make (keeps test r x) (keeps_all rest) w k)) k
+      keeps_choose z (a ++ x ∷ rest) rest (keeps-append a (x ∷ rest) (and_true (test site.0) (keeps_all a) h).1
+      (and_make (keeps test r x) (keeps_all rest) w k)) k
   keeps_followed x rest (Region q site cond a) z w h k =
-      keeps_choose z (a ++ x ∷ rest) rest (keeps-append a (x ∷ rest) (and_true (test site.0 && not (q == r)) (keeps_all a) h).1 (and_make (keeps test r x) (keeps_all rest) w k)) k
+      keeps_choose z (a ++ x ∷ rest) rest (keeps-append a (x ∷ rest) (and_true (test site.0 && not (q == r)) (keeps_all a) h).1
+      (and_make (keeps test r x) (keeps_all rest) w k)) k
   keeps_followed x rest (Break site cond) z w h k = keeps_choose z (behind_region rest) rest (keeps_behind rest k) k
   keeps_followed x rest _ z w h k = k
 

@@ -37,7 +37,8 @@ pub record GoesByStep (p : Program) (input : List ℤ) (fuel : ℕ) (c : Config)
   pub steps_within : length run.trace ≤ fuel
   pub one_more : length run.configs ≡ suc (length run.trace)
   pub first : slice_get run.configs 0 ≡ Some c
-  pub each : (k : ℕ) (before after : Config) (event : Event) → slice_get run.configs k ≡ Some before → slice_get run.trace k ≡ Some event → slice_get run.configs (suc k) ≡ Some after →
+  pub each : (k : ℕ) (before after : Config) (event : Event) → slice_get run.configs k ≡ Some before → slice_get run.trace k ≡ Some event →
+      slice_get run.configs (suc k) ≡ Some after →
       step p input before ≡ Stepped event after
   pub last : (d : Config) → slice_get run.configs (length run.trace) ≡ Some d → EndsAt p input (fuel - length run.trace) d run.end
 

@@ -1,5 +1,6 @@
 -- Names in scope: each variable that a text names is visible there, and each function that it calls stands before it.
-use Rattle.std.specs.Prelude.{ℕ, zero, suc, ◌==◌, if◌then◌else◌, Bool, true, false, not, ◌&&◌, ◌||◌, List, [], ◌∷◌, length, Option, Some, None, slice_get, nat_lt}
+use Rattle.std.specs.Prelude.{ℕ, zero, suc, ◌==◌, if◌then◌else◌, Bool, true, false, not, ◌&&◌, ◌||◌, List, [], ◌∷◌, length, Option, Some, None, slice_get}
+use Rattle.std.specs.Prelude.{nat_lt}
 use Rattle.std.specs.List.{list_all, list_any}
 use Rattle.dp_base.specs.declared.VarId.{VarId}
 use Rattle.dp_tree.specs.declared.Expr.{Expr, end_of-Expr, more_of-Expr}
@@ -54,7 +55,8 @@ abbrev mutual
   in_scope p r n visible (Assign site x e) = knows visible e && (sees visible x || is_declared_in r (slice_get p.vars x.0))
   in_scope p r n visible (Store site x index e) = sees visible x && (knows visible index && knows visible e)
   in_scope p r n visible (Print site e) = knows visible e
-  in_scope p r n visible (If' site cond _ then_part _ else_part) = knows visible cond && (rows_in_scope p r n visible then_part && rows_in_scope p r n visible else_part)
+  in_scope p r n visible (If' site cond _ then_part _ else_part) =
+      knows visible cond && (rows_in_scope p r n visible then_part && rows_in_scope p r n visible else_part)
   in_scope p r n visible (While' site cond _ body) = knows visible cond && rows_in_scope p r n visible body
   in_scope p r n visible (Region' q site cond _ body) = knows visible cond && rows_in_scope p q n visible body
   in_scope p r n visible (Break site cond) = knows visible cond

@@ -19,7 +19,8 @@ abbrev mutual
 abbrev mutual
   -- the statement itself passes the test, and so do those inside it
   pub everywhere : (Stmt → Bool) → Stmt → Bool
-  everywhere test (If' site cond h then_part k else_part) = test (If' site cond h then_part k else_part) && (everywhere_in test then_part && everywhere_in test else_part)
+  everywhere test (If' site cond h then_part k else_part) =
+      test (If' site cond h then_part k else_part) && (everywhere_in test then_part && everywhere_in test else_part)
   everywhere test (While' site cond h body) = test (While' site cond h body) && everywhere_in test body
   everywhere test (Region' r site cond h body) = test (Region' r site cond h body) && everywhere_in test body
   everywhere test s = test s

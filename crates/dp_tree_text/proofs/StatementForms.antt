@@ -6,7 +6,7 @@ use Rattle.dp_tree.specs.declared.Expr.{Expr}
 use Rattle.dp_tree.specs.declared.Stmt.{Stmt}
 use Rattle.dp_tree.specs.declared.Stmt.TheVariants as tree
 use Rattle.dp_report.specs.Lines.{line}
-use Rattle.dp_tree_text.specs.StatementText.{assign_text, evaluated, region_text, rows_text, statement_text, statement_texts, store_text}
+use Rattle.dp_tree_text.specs.StatementText.{assign_text, evaluated_text, region_text, rows_text, statement_text, statement_texts, store_text}
 use Rattle.dp_tree_text.proofs.Opened.{opened}
 use Rattle.dp_room.proofs.ListLemmas.{next_of}
 
@@ -23,11 +23,11 @@ pub text-Store : (site : SiteId) (x : VarId) (i e : Expr) → statement_text (tr
 unfolding statement_text
 text-Store site x i e = refl
 
-pub text-Print : (site : SiteId) (e : Expr) → statement_text (tree.Print site e) ≡ evaluated (codes "print ") site e
+pub text-Print : (site : SiteId) (e : Expr) → statement_text (tree.Print site e) ≡ evaluated_text (codes "print ") site e
 unfolding statement_text
 text-Print site e = refl
 
-pub text-Break : (site : SiteId) (e : Expr) → statement_text (tree.Break site e) ≡ evaluated (codes "break ") site e
+pub text-Break : (site : SiteId) (e : Expr) → statement_text (tree.Break site e) ≡ evaluated_text (codes "break ") site e
 unfolding statement_text
 text-Break site e = refl
 
@@ -36,17 +36,21 @@ unfolding statement_text
 text-Call f at args = refl
 
 pub text-If : (site : SiteId) (e : Expr) (a b : List Stmt)
-    → statement_text (tree.If site e a b) ≡ evaluated (codes "if ") site e ++ (statement_texts a ++ (line (codes "else") ++ (statement_texts b ++ line (codes "end"))))
+    → statement_text (tree.If site e a b) ≡ evaluated_text (codes "if ") site e
+    ++ (statement_texts a ++ (line (codes "else") ++ (statement_texts b ++ line (codes "end"))))
 unfolding statement_text opened
 text-If site e a b =
-    ap (λ r. evaluated (codes "if ") site e ++ (r ++ (line (codes "else") ++ (rows_text (Rattle.dp_tree.specs.declared.Stmt.TheBlock.hidden-the_row-Stmt-0 b) ++ line (codes "end"))))) (rows_are a)
-    ∙ ap (λ r. evaluated (codes "if ") site e ++ (statement_texts a ++ (line (codes "else") ++ (r ++ line (codes "end"))))) (rows_are b)
+    ap (λ r. evaluated_text (codes "if ") site e
+    ++ (r ++ (line (codes "else") ++ (rows_text (Rattle.dp_tree.specs.declared.Stmt.TheBlock.hidden-the_row-Stmt-0 b) ++ line (codes "end"))))) (rows_are a)
+    ∙ ap (λ r. evaluated_text (codes "if ") site e ++ (statement_texts a ++ (line (codes "else") ++ (r ++ line (codes "end"))))) (rows_are b)
 
-pub text-While : (site : SiteId) (e : Expr) (a : List Stmt) → statement_text (tree.While site e a) ≡ evaluated (codes "while ") site e ++ (statement_texts a ++ line (codes "end"))
+pub text-While : (site : SiteId) (e : Expr) (a : List Stmt) → statement_text (tree.While site e a) ≡ evaluated_text (codes "while ") site e
+    ++ (statement_texts a ++ line (codes "end"))
 unfolding statement_text opened
-text-While site e a = ap (λ r. evaluated (codes "while ") site e ++ (r ++ line (codes "end"))) (rows_are a)
+text-While site e a = ap (λ r. evaluated_text (codes "while ") site e ++ (r ++ line (codes "end"))) (rows_are a)
 
-pub text-Region : (r : ℕ) (site : SiteId) (e : Expr) (a : List Stmt) → statement_text (tree.Region r site e a) ≡ region_text r site e ++ (statement_texts a ++ line (codes "end"))
+pub text-Region : (r : ℕ) (site : SiteId) (e : Expr) (a : List Stmt) → statement_text (tree.Region r site e a) ≡ region_text r site e
+    ++ (statement_texts a ++ line (codes "end"))
 unfolding statement_text opened
 text-Region r site e a = ap (λ t. region_text r site e ++ (t ++ line (codes "end"))) (rows_are a)
 

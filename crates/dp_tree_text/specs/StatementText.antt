@@ -10,8 +10,8 @@ use Rattle.dp_report.specs.Lines.{line}
 use Rattle.dp_tree_text.specs.ExprText.{expr_text}
 
 -- a word, a site and what is evaluated there
-abbrev pub evaluated : List ℕ → SiteId → Expr → List ℕ
-evaluated word site e = line (labelled word site.0 ++ expr_text e)
+abbrev pub evaluated_text : List ℕ → SiteId → Expr → List ℕ
+evaluated_text word site e = line (labelled word site.0 ++ expr_text e)
 
 -- an assignment: its site, its variable and the value
 abbrev pub assign_text : SiteId → VarId → Expr → List ℕ
@@ -23,18 +23,18 @@ store_text site x index e = line (labelled (codes "store ") site.0 ++ labelled (
 
 -- the head of a region: its number, its site and the condition
 abbrev pub region_text : ℕ → SiteId → Expr → List ℕ
-region_text r site cond = labelled (codes "region ") r ++ evaluated (codes " ") site cond
+region_text r site cond = labelled (codes "region ") r ++ evaluated_text (codes " ") site cond
 
 unfoldable mutual
   -- A statement's line, the lines of what stands inside it, and their end. An inlined program has no call.
   pub statement_text : Stmt → List ℕ
   statement_text (Assign site x e) = assign_text site x e
   statement_text (Store site x index e) = store_text site x index e
-  statement_text (Print site e) = evaluated (codes "print ") site e
-  statement_text (Break site cond) = evaluated (codes "break ") site cond
+  statement_text (Print site e) = evaluated_text (codes "print ") site e
+  statement_text (Break site cond) = evaluated_text (codes "break ") site cond
   statement_text (If' site cond _ then_part _ else_part) =
-      evaluated (codes "if ") site cond ++ (rows_text then_part ++ (line (codes "else") ++ (rows_text else_part ++ line (codes "end"))))
-  statement_text (While' site cond _ body) = evaluated (codes "while ") site cond ++ (rows_text body ++ line (codes "end"))
+      evaluated_text (codes "if ") site cond ++ (rows_text then_part ++ (line (codes "else") ++ (rows_text else_part ++ line (codes "end"))))
+  statement_text (While' site cond _ body) = evaluated_text (codes "while ") site cond ++ (rows_text body ++ line (codes "end"))
   statement_text (Region' r site cond _ body) = region_text r site cond ++ (rows_text body ++ line (codes "end"))
   statement_text (Call f at args) = []
 

@@ -23,7 +23,7 @@ scope_text Outer = codes " outer"
 scope_text (Body region) = labelled (codes " body ") region
 
 -- a variable's number and name, whether it is an array, its first cell, the number of its cells, its start value and its scope
-abbrev pub variable_line : ℕ → VarInfo → List ℕ
-variable_line n x =
+abbrev pub variable_entry : ℕ → VarInfo → List ℕ
+variable_entry n x =
     line (labelled (codes "var ") n ++ codes " " ++ x.name ++ form_name x.array ++ labelled (codes " first ") x.first.0
     ++ labelled (codes " length ") x.length ++ start_text x.start ++ scope_text x.scope)

@@ -9,16 +9,13 @@ use itoa::Buffer;
 
 /// Appends the words of the expression.
 #[tactic(auto, using(crate::proofs::ExprForms::expr_forms))]
+#[cycle(expr)]
 pub fn put_expr(out: &mut Row<u8>, e: &Expr) -> Result<(), NoMemory>
     ensures { OnOk result (out.new ≡ out.old ++ expr_text e.now) }
 {
     match e {
         Expr::Number(n) => put_number(out, *n),
-        Expr::Input(index) => {
-            out.extend_from_slice(b" input")?;
-            put_expr(out, index.get())?;
-            Ok(())
-        }
+        Expr::Input(index) => put_operand(out, b" input", index.get()),
         Expr::InputLen => out.extend_from_slice(b" input_len"),
         Expr::Scalar(var) => put_labelled(out, b" scalar ", u64::from(var.0)),
         Expr::Element(var, index) => {
@@ -26,30 +23,34 @@ pub fn put_expr(out: &mut Row<u8>, e: &Expr) -> Result<(), NoMemory>
             put_expr(out, index.get())?;
             Ok(())
         }
-        Expr::Unary(op, a) => {
-            out.extend_from_slice(unary_name(*op))?;
-            put_expr(out, a.get())?;
-            Ok(())
-        }
+        Expr::Unary(op, a) => put_operand(out, unary_name(*op), a.get()),
         Expr::Binary(op, a, b) => {
-            out.extend_from_slice(binary_name(*op))?;
-            put_expr(out, a.get())?;
+            put_operand(out, binary_name(*op), a.get())?;
             put_expr(out, b.get())?;
             Ok(())
         }
         Expr::And(a, b) => {
-            out.extend_from_slice(b" &&")?;
-            put_expr(out, a.get())?;
+            put_operand(out, b" &&", a.get())?;
             put_expr(out, b.get())?;
             Ok(())
         }
         Expr::Or(a, b) => {
-            out.extend_from_slice(b" ||")?;
-            put_expr(out, a.get())?;
+            put_operand(out, b" ||", a.get())?;
             put_expr(out, b.get())?;
             Ok(())
         }
     }
+}
+
+/// Appends an operator and the words of its first operand.
+#[tactic(auto, using(crate::proofs::ExprForms::expr_forms))]
+#[cycle(expr)]
+fn put_operand(out: &mut Row<u8>, name: &[u8], e: &Expr) -> Result<(), NoMemory>
+    ensures { OnOk result (out.new ≡ out.old ++ (name.now ++ expr_text e.now)) }
+{
+    out.extend_from_slice(name)?;
+    put_expr(out, e)?;
+    Ok(())
 }
 
 #[tactic(auto, unfolding(crate::specs::ExprText::number_text))]

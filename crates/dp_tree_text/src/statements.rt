@@ -9,7 +9,7 @@ use dp_tree::{Expr, Stmt};
 
 /// A word, a site and what is evaluated there.
 fn put_evaluated(out: &mut Row<u8>, word: &[u8], site: SiteId, value: &Expr) -> Result<(), NoMemory>
-    ensures { OnOk result (out.new ≡ out.old ++ spec.evaluated word.now site value.now) }
+    ensures { OnOk result (out.new ≡ out.old ++ spec.evaluated_text word.now site value.now) }
 {
     put_labelled(out, word, u64::from(site.0))?;
     put_expr(out, value)?;

@@ -1,7 +1,7 @@
 //! The lines of variables.
 ghost use Rattle.std.specs.Prelude.{◌≡◌, ◌++◌, OnOk};
 ghost use Rattle.dp_report.specs.Lines.{numbered};
-ghost use Rattle.dp_tree_text.specs.VariableText.{form_name, scope_text, start_text, variable_line};
+ghost use Rattle.dp_tree_text.specs.VariableText.{form_name, scope_text, start_text, variable_entry};
 
 use dp_base::{NoMemory, Row};
 use dp_text::put_labelled;
@@ -9,7 +9,7 @@ use dp_tree::{VarInfo, VarScope};
 use itoa::Buffer;
 
 pub fn put_variables(out: &mut Row<u8>, vars: &[VarInfo]) -> Result<(), NoMemory>
-    ensures { OnOk result (out.new ≡ out.old ++ numbered variable_line 0 vars.now) }
+    ensures { OnOk result (out.new ≡ out.old ++ numbered variable_entry 0 vars.now) }
 {
     for (place, var) in vars.iter().enumerate() {
         put_variable(out, place as u64, var)?;
@@ -18,7 +18,7 @@ pub fn put_variables(out: &mut Row<u8>, vars: &[VarInfo]) -> Result<(), NoMemory
 }
 
 fn put_variable(out: &mut Row<u8>, number: u64, var: &VarInfo) -> Result<(), NoMemory>
-    ensures { OnOk result (out.new ≡ out.old ++ variable_line number var.now) }
+    ensures { OnOk result (out.new ≡ out.old ++ variable_entry number var.now) }
 {
     put_labelled(out, b"var ", number)?;
     out.push(b' ')?;

@@ -1,5 +1,6 @@
 -- Entries of lists.
-use Rattle.std.proofs.Common.{◌≡◌, ◌≢◌, ◌⊎◌, inl, inr, refl, sym, subst, ◌∙◌, ap, arith, ℕ, zero, suc, ◌<◌, ◌≤◌, ◌+◌, List, [], ◌∷◌, ◌++◌, length, take, map, Some, slice_get}
+use Rattle.std.proofs.Common.{◌≡◌, ◌≢◌, ◌⊎◌, inl, inr, refl, sym, subst, ◌∙◌, ap, arith, ℕ, zero, suc, ◌<◌, ◌≤◌, ◌+◌, List, [], ◌∷◌, ◌++◌, length, take, map}
+use Rattle.std.proofs.Common.{Some, slice_get}
 use Rattle.std.proofs.Math.ListN.{set, length-set}
 use Rattle.std.proofs.lemmas.Bool.{cases_lt, cases_eq}
 use Rattle.std.proofs.lemmas.List.{get_or-set_other}
@@ -27,7 +28,8 @@ at_kept (y ∷ xs) ys (suc i) x e = at_kept xs ys i x e
 
 pub at_added : {X : Type 0} (xs ys : List X) (i : ℕ) (x : X) → At ys i x → At (xs ++ ys) (length xs + i) x
 at_added [] ys i x e = let same : i ≡ 0 + i = omega arith in subst (λ k. At ys k x) same e
-at_added (y ∷ xs) ys i x e = let same : suc (length xs + i) ≡ suc (length xs) + i = omega arith in subst (λ k. At (y ∷ (xs ++ ys)) k x) same (at_added xs ys i x e)
+at_added (y ∷ xs) ys i x e = let same : suc (length xs + i) ≡ suc (length xs) + i = omega arith in
+    subst (λ k. At (y ∷ (xs ++ ys)) k x) same (at_added xs ys i x e)
 
 pub at_append : {X : Type 0} (xs ys : List X) (i : ℕ) (x : X) → At (xs ++ ys) i x → (At xs i x) ⊎ ((k : ℕ) × (i ≡ length xs + k) × At ys k x)
 at_append [] ys i x e = inr (i, (let same : i ≡ 0 + i = omega arith in same), e)

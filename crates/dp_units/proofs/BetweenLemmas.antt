@@ -1,5 +1,6 @@
 -- The edges between units, one edge after the other.
-use Rattle.std.proofs.Common.{◌≡◌, ◌≢◌, inl, inr, refl, sym, subst, ◌∙◌, ap, arith, ℕ, ◌<◌, ◌≤◌, ◌+◌, ◌==◌, ◌&&◌, List, [], ◌∷◌, ◌++◌, length, take, drop, replicate, slice_index, slice_index_or}
+use Rattle.std.proofs.Common.{◌≡◌, ◌≢◌, inl, inr, refl, sym, subst, ◌∙◌, ap, arith, ℕ, ◌<◌, ◌≤◌, ◌+◌, ◌==◌, ◌&&◌, List, [], ◌∷◌, ◌++◌, length, take, drop}
+use Rattle.std.proofs.Common.{replicate, slice_index, slice_index_or}
 use Rattle.std.proofs.Math.ListN.{set}
 use Rattle.std.proofs.lemmas.Bool.{cases_eq, eq-eqb, ne_eqb}
 use Rattle.std.proofs.lemmas.List.{take_more, drop_more, get_or-set_same, get_or-set_other, get_or-replicate}
@@ -12,7 +13,8 @@ use Rattle.dp_units.proofs.EnterLemmas.{pair_first, pair_second}
 use Rattle.dp_units.proofs.TakeLemmas.{edge_within}
 use Rattle.dp_units.proofs.CountLemmas.{left_of, at_most_one}
 
-module _ (edges : List (ℕ × ℕ)) (leader_of : List ℕ) (i : ℕ) (old new : List (ℕ × ℕ)) (f t : ℕ) (h : i < length edges) (is : slice_index_or edges i (0, 0) ≡ (f, t))
+module _ (edges : List (ℕ × ℕ)) (leader_of : List ℕ) (i : ℕ) (old new : List (ℕ × ℕ)) (f t : ℕ) (h : i < length edges)
+    (is : slice_index_or edges i (0, 0) ≡ (f, t))
     (same : slice_index leader_of f ≡ slice_index leader_of t → new ≡ old)
     (apart : slice_index leader_of f ≢ slice_index leader_of t → new ≡ old ++ (slice_index leader_of f, slice_index leader_of t) ∷ [])
     (was : AreBetween (take i edges) leader_of old) where
@@ -58,13 +60,15 @@ module _ (edges : List (ℕ × ℕ)) (leader_of : List ℕ) (i : ℕ) (old new :
           let is_a : f ≡ a = pair_first f t a b e in
           let is_b : t ≡ b = pair_second f t a b e in
           let ne' : lead f ≢ lead t = λ one. ne (ap lead (sym is_a) ∙ one ∙ ap lead is_b) in
-          let at : HasEdge new (lead f) (lead t) = subst (λ (xs : List (ℕ × ℕ)). HasEdge xs (lead f) (lead t)) (sym (apart ne')) (Contains-push old (lead f, lead t)) in
+          let at : HasEdge new (lead f) (lead t) = subst (λ (xs : List (ℕ × ℕ)). HasEdge xs (lead f) (lead t)) (sym (apart ne'))
+          (Contains-push old (lead f, lead t)) in
           subst (λ k. HasEdge new (lead k) (lead b)) is_a (subst (λ k. HasEdge new (lead f) (lead k)) is_b at)
     ];
   }
 
 -- the edges between units lie among the nodes
-pub between_within : (n : ℕ) (edges : List (ℕ × ℕ)) (leader_of : List ℕ) (between : List (ℕ × ℕ)) → AreWithin n edges → AreLeaders n edges leader_of → AreBetween edges leader_of between → AreWithin n between
+pub between_within : (n : ℕ) (edges : List (ℕ × ℕ)) (leader_of : List ℕ) (between : List (ℕ × ℕ)) → AreWithin n edges → AreLeaders n edges leader_of →
+    AreBetween edges leader_of between → AreWithin n between
 between_within n edges leader_of between within leads is = λ i d h.
     let e : ℕ × ℕ = slice_index_or between i d in
     let edge : HasEdge between e.0 e.1 = Contains-get_or between i d h in
@@ -88,7 +92,8 @@ module _ (n : ℕ) (edges : List (ℕ × ℕ)) (within : AreWithin n edges) (wai
       let both = within i (0, 0) h in
       let all : slice_index (replicate n n) edge.0 ≡ n = get_or-replicate n edge.0 n 0 both.0 in
       ap (λ (es : List (ℕ × ℕ)). waits_for n (replicate n n) es v) (drop_more edges i (0, 0) h)
-      ∙ ap (λ k. k + waits_for n (replicate n n) (drop (i + 1) edges) v) (left_of (edge.1 == v) (slice_index (replicate n n) edge.0 == n) (eq-eqb (slice_index (replicate n n) edge.0) n all))
+      ∙ ap (λ k. k + waits_for n (replicate n n) (drop (i + 1) edges) v) (left_of (edge.1 == v) (slice_index (replicate n n) edge.0 == n)
+      (eq-eqb (slice_index (replicate n n) edge.0) n all))
 
   pub target_low : edge.1 < n
   target_low = (within i (0, 0) h).1
@@ -97,7 +102,8 @@ module _ (n : ℕ) (edges : List (ℕ × ℕ)) (within : AreWithin n edges) (wai
   counted_more v in_v = elim (cases_eq v edge.1) [
     | inl e ↦
         let w : slice_index now v ≡ slice_index waits v + 1 =
-        ap (λ k. slice_index now k) e ∙ get_or-set_same waits edge.1 (slice_index waits edge.1 + 1) 0 (let low = target_low in omega (arith, low, long)) ∙ ap (λ k. slice_index waits k + 1) (sym e) in
+        ap (λ k. slice_index now k) e ∙ get_or-set_same waits edge.1 (slice_index waits edge.1 + 1) 0 (let low = target_low in omega (arith, low, long))
+        ∙ ap (λ k. slice_index waits k + 1) (sym e) in
         let one : one_if (edge.1 == v) ≡ 1 = ap one_if (eq-eqb edge.1 v (sym e)) in
         let l = left v in
         let c = counts v in_v in

@@ -27,14 +27,19 @@ pub at_dropped : (n : ℕ) (xs : List ℕ) (i x : ℕ) → n ≤ i → At xs i x
 at_dropped zero xs i x h e = let same : i ≡ i - 0 = omega arith in subst (λ k. At xs k x) same e
 at_dropped (suc n) [] i x h e = absurd (at_none i x e)
 at_dropped (suc n) (y ∷ xs) zero x h e = absurd (omega (arith, h))
-at_dropped (suc n) (y ∷ xs) (suc i) x h e = let same : i - n ≡ suc i - suc n = omega arith in subst (λ k. At (drop n xs) k x) same (at_dropped n xs i x (omega (arith, h)) e)
+at_dropped (suc n) (y ∷ xs) (suc i) x h e = let same : i - n ≡ suc i - suc n = omega arith in
+    subst (λ k. At (drop n xs) k x) same (at_dropped n xs i x (omega (arith, h)) e)
 
 pub closing_of : (marks now : List Mark) (path : List ℕ) (bottom unit : ℕ) → IsMarked marks now (drop bottom path) unit → IsClosing marks now path bottom unit
 closing_of marks now path bottom unit is = record {
   each = is.each;
   closed = λ i v low at. is.closed (i - bottom) v (at_dropped bottom path i v low at);
   kept = λ v m at none. is.kept v m at (λ i on. none (bottom + i) (omega arith) (at_drop bottom path i v on));
-  others = λ v m at. elim (is.others v m at) [ inl old ↦ inl old | inr (same, has) ↦ inr (same, bottom + has.0, omega arith, at_drop bottom path has.0 v has.1) ];
+  others = λ v m at. elim (is.others v m at) [
+    | inl old ↦ inl old
+    | inr (same, has) ↦
+        inr (same, bottom + has.0, omega arith, at_drop bottom path has.0 v has.1)
+  ];
 }
 
 pub least_of : (path : List ℕ) (bottom l : ℕ) → ((i v : ℕ) → At (drop bottom path) i v → l ≤ v) → (i v : ℕ) → bottom ≤ i → At path i v → l ≤ v
@@ -43,8 +48,10 @@ least_of path bottom l least i v low at = least (i - bottom) v (at_dropped botto
 pub member_of : (path : List ℕ) (bottom l : ℕ) → Has (drop bottom path) l → (i : ℕ) × (bottom ≤ i) × At path i l
 member_of path bottom l (i, at) = (bottom + i, omega arith, at_drop bottom path i l at)
 
-module _ (n : ℕ) (edges : List (ℕ × ℕ)) (ms now : List Mark) (path bs : List ℕ) (t : ℕ) (ws : List (ℕ × ℕ)) (ls : List ℕ) (l : ℕ) (is : IsSearch n edges ms path (bs ++ t ∷ []) ws ls)
-    (done : (i w : ℕ) → Has ws (i, w) → i < t) (closing : IsClosing ms now path t (length ls)) (least : (i v : ℕ) → t ≤ i → At path i v → l ≤ v) (leader : (i : ℕ) × (t ≤ i) × At path i l) where
+module _ (n : ℕ) (edges : List (ℕ × ℕ)) (ms now : List Mark) (path bs : List ℕ) (t : ℕ) (ws : List (ℕ × ℕ)) (ls : List ℕ) (l : ℕ)
+    (is : IsSearch n edges ms path (bs ++ t ∷ []) ws ls)
+    (done : (i w : ℕ) → Has ws (i, w) → i < t) (closing : IsClosing ms now path t (length ls)) (least : (i v : ℕ) → t ≤ i → At path i v → l ≤ v)
+    (leader : (i : ℕ) × (t ≤ i) × At path i l) where
   abbrev bs' : List ℕ
   bs' = bs ++ t ∷ []
 
@@ -152,7 +159,8 @@ module _ (n : ℕ) (edges : List (ℕ × ℕ)) (ms now : List Mark) (path bs : L
     ];
     leads = λ c x at. elim (at_push ls l c x at) [
       | inl old ↦ still x c (is.leads c x old)
-      | inr new ↦ subst (λ k. At now x (Closed k)) (sym new.0) (subst (λ y. At now y (Closed (length ls))) (sym new.1) (closing.closed leader.0 l leader.1 leader.2))
+      | inr new ↦ subst (λ k. At now x (Closed k)) (sym new.0) (subst (λ y. At now y (Closed (length ls))) (sym new.1)
+          (closing.closed leader.0 l leader.1 leader.2))
     ];
   }
 

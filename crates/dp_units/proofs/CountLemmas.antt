@@ -1,5 +1,6 @@
 -- Counts of nodes without a place, and of edges from them.
-use Rattle.std.proofs.Common.{◌≡◌, ◌≢◌, ◌⊎◌, inl, inr, refl, sym, subst, ◌∙◌, ap, arith, ℕ, zero, suc, ◌<◌, ◌≤◌, ◌+◌, ◌==◌, ◌&&◌, if◌then◌else◌, Bool, true, false, List, [], ◌∷◌, length, replicate, slice_index}
+use Rattle.std.proofs.Common.{◌≡◌, ◌≢◌, ◌⊎◌, inl, inr, refl, sym, subst, ◌∙◌, ap, arith, ℕ, zero, suc, ◌<◌, ◌≤◌, ◌+◌, ◌==◌, ◌&&◌, if◌then◌else◌, Bool, true}
+use Rattle.std.proofs.Common.{false, List, [], ◌∷◌, length, replicate, slice_index}
 use Rattle.std.proofs.lemmas.Bool.{cases_eq, eq-eqb, ne_eqb, and_from}
 use Rattle.dp_room.specs.OneIf.{one_if}
 use Rattle.dp_units.specs.steps.Entries.{times}
@@ -17,7 +18,8 @@ none_more n x y back = elim (cases_eq y n) [
   | inr other ↦ let is : one_if (y == n) ≡ 0 = ap one_if (ne_eqb y n other) in omega (arith, is)
 ]
 
-pub left_over_le : (n : ℕ) (xs ys : List ℕ) → length ys ≡ length xs → ((k : ℕ) → k < length xs → slice_index ys k ≡ n → slice_index xs k ≡ n) → left_over n ys ≤ left_over n xs
+pub left_over_le : (n : ℕ) (xs ys : List ℕ) → length ys ≡ length xs → ((k : ℕ) → k < length xs → slice_index ys k ≡ n → slice_index xs k ≡ n) →
+    left_over n ys ≤ left_over n xs
 left_over_le n [] [] same back = omega arith
 left_over_le n [] (y ∷ ys) same back = absurd (omega (arith, same))
 left_over_le n (x ∷ xs) [] same back = absurd (omega (arith, same))
@@ -77,7 +79,8 @@ eqb_eq a b t = elim (cases_eq a b) [
 ]
 
 -- some edge leads here from a node without a place
-pub some_waits : (n : ℕ) (places : List ℕ) (edges : List (ℕ × ℕ)) (x : ℕ) → waits_for n places edges x ≢ 0 → (a : ℕ) × HasEdge edges a x × (slice_index places a ≡ n)
+pub some_waits : (n : ℕ) (places : List ℕ) (edges : List (ℕ × ℕ)) (x : ℕ) → waits_for n places edges x ≢ 0 → (a : ℕ) × HasEdge edges a x
+    × (slice_index places a ≡ n)
 some_waits n places [] x some = absurd (some refl)
 some_waits n places (e ∷ edges) x some = elim (one_by (e.1 == x) (slice_index places e.0 == n)) [
   | inr both ↦ (e.0, subst (λ y. HasEdge (e ∷ edges) e.0 y) (eqb_eq e.1 x both.0) (first_edge edges e.0 e.1), eqb_eq (slice_index places e.0) n both.1)
@@ -95,7 +98,8 @@ gone true c e = ap one_if e
 gone false c e = refl
 
 -- a node gets a place, and what its edges lead to waits for so many less
-pub fewer_wait : (n : ℕ) (places now : List ℕ) (l : ℕ) → slice_index places l ≡ n → slice_index now l ≢ n → ((a : ℕ) → a ≢ l → slice_index now a ≡ slice_index places a) →
+pub fewer_wait : (n : ℕ) (places now : List ℕ) (l : ℕ) → slice_index places l ≡ n → slice_index now l ≢ n →
+    ((a : ℕ) → a ≢ l → slice_index now a ≡ slice_index places a) →
     (edges : List (ℕ × ℕ)) (x : ℕ) → waits_for n places edges x ≡ waits_for n now edges x + times (targets edges l) x
 fewer_wait n places now l was is others [] x = refl
 fewer_wait n places now l was is others (e ∷ edges) x =

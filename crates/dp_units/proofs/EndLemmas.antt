@@ -12,14 +12,16 @@ use Rattle.dp_units.proofs.AtLemmas.{at_none}
 use Rattle.dp_units.proofs.CountLemmas.{all_left, some_waits}
 use Rattle.dp_units.proofs.TakeLemmas.{edge_within, lead_within, is_taken}
 
-module _ (n : ℕ) (edges : List (ℕ × ℕ)) (leader_of : List ℕ) (between : List (ℕ × ℕ)) (within : AreWithin n edges) (leads : AreLeaders n edges leader_of) (apart : AreBetween edges leader_of between) where
+module _ (n : ℕ) (edges : List (ℕ × ℕ)) (leader_of : List ℕ) (between : List (ℕ × ℕ)) (within : AreWithin n edges) (leads : AreLeaders n edges leader_of)
+    (apart : AreBetween edges leader_of between) where
   -- where none may be taken, all have their places
   module _ (places order waits : List ℕ) (is : IsTaking n edges leader_of between places order waits []) where
     abbrev lead : ℕ → ℕ
     lead v = slice_index leader_of v
 
     -- a unit that has no place waits for one of a higher rank
-    waits_higher : (v : ℕ) → v < n → slice_index places (lead v) ≡ n → (a : ℕ) × (a < n) × (leads.rank (lead v) < leads.rank (lead a)) × (slice_index places (lead a) ≡ n)
+    waits_higher : (v : ℕ) → v < n → slice_index places (lead v) ≡ n → (a : ℕ) × (a < n) × (leads.rank (lead v) < leads.rank (lead a))
+        × (slice_index places (lead a) ≡ n)
     waits_higher v h left =
         let low = lead_within n edges leader_of between within leads apart v h in
         let same : lead (lead v) ≡ lead v = leads.one (lead v) v low h (leads.same v h) in
@@ -52,7 +54,8 @@ module _ (n : ℕ) (edges : List (ℕ × ℕ)) (leader_of : List ℕ) (between :
     pub is_order : IsOrder n edges order
     is_order = record { next = is.next; all = λ v h. is_taken n edges leader_of between within leads apart places order waits [] is v h (all_placed v h) }
 
-    pub are_places : (place_of : List ℕ) → length place_of ≡ n → ((v : ℕ) → v < n → slice_index place_of v ≡ slice_index places (lead v)) → ArePlaces n edges order place_of
+    pub are_places : (place_of : List ℕ) → length place_of ≡ n → ((v : ℕ) → v < n → slice_index place_of v ≡ slice_index places (lead v)) →
+        ArePlaces n edges order place_of
     are_places place_of each made = record {
       each = each;
       within = λ v h.

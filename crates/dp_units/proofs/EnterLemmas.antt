@@ -6,7 +6,8 @@ use Rattle.dp_units.specs.declared.mark.Mark.{Mark}
 use Rattle.dp_units.specs.declared.mark.Mark.TheVariants.{Unseen, OnPath, Closed}
 use Rattle.dp_units.specs.Graph.{Walk, HasEdge}
 use Rattle.dp_units.specs.steps.Search.{IsPath, IsSearch, IsSettled, IsUnseen}
-use Rattle.dp_units.proofs.AtLemmas.{at_within, at_one, at_push, at_last, at_kept, at_append, at_map, at_mapped, at_set, at_unset, has_kept, has_added, has_append, has_push}
+use Rattle.dp_units.proofs.AtLemmas.{at_within, at_one, at_push, at_last, at_kept, at_append, at_map, at_mapped, at_set, at_unset, has_kept, has_added}
+use Rattle.dp_units.proofs.AtLemmas.{has_append, has_push}
 use Rattle.dp_units.proofs.PathLemmas.{longer, joined}
 use Rattle.dp_room.proofs.ListLemmas.{get_set_same}
 
@@ -115,7 +116,8 @@ module _ (n : ℕ) (edges : List (ℕ × ℕ)) (ms : List Mark) (path bs : List 
         ]
         | inr new ↦
             let has = all w (subst (λ x. HasEdge edges x w) new.1 edge) in
-            inr (subst (λ k. Has more (k, w)) (sym new.0) (has_added ws (map (λ w. (length path, w)) row) (length path, w) (has.0, at_mapped (λ w. (length path, w)) row has.0 w has.1)))
+            inr (subst (λ k. Has more (k, w)) (sym new.0) (has_added ws (map (λ w. (length path, w)) row) (length path, w)
+            (has.0, at_mapped (λ w. (length path, w)) row has.0 w has.1)))
       ];
       closed = λ c u w at edge. let on = is.closed c u w (closed_before u c at) edge in (on.0, still w (Closed on.0) (unseen_closed on.0) on.1, on.2);
       unit = λ c u w atu atw. is.unit c u w (closed_before u c atu) (closed_before w c atw);

@@ -1,5 +1,6 @@
 -- What is free after a node came to it, and after a row was gone through.
-use Rattle.std.proofs.Common.{◌≡◌, ◌≢◌, ◌⊎◌, inl, inr, refl, sym, subst, ◌∙◌, ap, arith, ℕ, zero, suc, ◌<◌, ◌≤◌, ◌+◌, ◌-◌, ◌==◌, List, [], ◌∷◌, ◌++◌, length, take, Some, slice_index, slice_index_or}
+use Rattle.std.proofs.Common.{◌≡◌, ◌≢◌, ◌⊎◌, inl, inr, refl, sym, subst, ◌∙◌, ap, arith, ℕ, zero, suc, ◌<◌, ◌≤◌, ◌+◌, ◌-◌, ◌==◌, List, [], ◌∷◌, ◌++◌, length}
+use Rattle.std.proofs.Common.{take, Some, slice_index, slice_index_or}
 use Rattle.std.proofs.Math.ListN.{set}
 use Rattle.std.specs.declared.cmp.Ordering.{Ordering}
 use Rattle.std.specs.declared.cmp.Ordering.TheVariants.{Less, Equal, Greater}
@@ -24,7 +25,8 @@ pub insert_from : (ks : List ℕ) (k x : ℕ) → Has (insert_key nat_cmp ks k) 
 insert_from [] k x has = elim (has_first k x [] has) [ inl same ↦ inr same | inr none ↦ inl none ]
 insert_from (y ∷ ys) k x has = by (nat_cmp k y) has (insert_from ys k x)
   where
-    by : (o : Ordering) → Has (match_ordering o (k ∷ y ∷ ys) (y ∷ ys) (y ∷ insert_key nat_cmp ys k)) x → (Has (insert_key nat_cmp ys k) x → Has ys x ⊎ (x ≡ k)) → Has (y ∷ ys) x ⊎ (x ≡ k)
+    by : (o : Ordering) → Has (match_ordering o (k ∷ y ∷ ys) (y ∷ ys) (y ∷ insert_key nat_cmp ys k)) x →
+        (Has (insert_key nat_cmp ys k) x → Has ys x ⊎ (x ≡ k)) → Has (y ∷ ys) x ⊎ (x ≡ k)
     by Less has rest = elim (has_first k x (y ∷ ys) has) [ inl same ↦ inr same | inr old ↦ inl old ]
     by Equal has rest = inl has
     by Greater has rest = elim (has_first y x (insert_key nat_cmp ys k) has) [
@@ -36,7 +38,8 @@ pub insert_kept : (ks : List ℕ) (k x : ℕ) → Has ks x → Has (insert_key n
 insert_kept [] k x has = absurd (at_none has.0 x has.1)
 insert_kept (y ∷ ys) k x has = by (nat_cmp k y) has (insert_kept ys k x)
   where
-    by : (o : Ordering) → Has (y ∷ ys) x → (Has ys x → Has (insert_key nat_cmp ys k) x) → Has (match_ordering o (k ∷ y ∷ ys) (y ∷ ys) (y ∷ insert_key nat_cmp ys k)) x
+    by : (o : Ordering) → Has (y ∷ ys) x → (Has ys x → Has (insert_key nat_cmp ys k) x) →
+        Has (match_ordering o (k ∷ y ∷ ys) (y ∷ ys) (y ∷ insert_key nat_cmp ys k)) x
     by Less has rest = has_later k x (y ∷ ys) has
     by Equal has rest = has
     by Greater has rest = elim (has_first y x ys has) [ inl same ↦ (0, ap Some (sym same)) | inr later ↦ has_later y x (insert_key nat_cmp ys k) (rest later) ]
@@ -60,7 +63,8 @@ times_front (suc k) [] x = omega arith
 times_front (suc k) (y ∷ xs) x = let rest = times_front k xs x in omega (arith, rest)
 
 -- one entry of a row more: its node waits for one edge less
-module _ (initial waits row : List ℕ) (i node : ℕ) (h : i < length row) (is : slice_index_or row i 0 ≡ node) (low : node < length initial) (same : length waits ≡ length initial)
+module _ (initial waits row : List ℕ) (i node : ℕ) (h : i < length row) (is : slice_index_or row i 0 ≡ node) (low : node < length initial)
+    (same : length waits ≡ length initial)
     (enough : (y : ℕ) → y < length initial → times row y ≤ slice_index initial y)
     (less : (y : ℕ) → y < length initial → slice_index waits y + times (take i row) y ≡ slice_index initial y) where
   abbrev now : List ℕ
@@ -111,7 +115,8 @@ module _ (initial waits row : List ℕ) (i node : ℕ) (h : i < length row) (is 
       | inl was ↦ elim (from y was) [
         | inl at_first ↦ inl at_first
         | inr (some, none) ↦ elim (cases_eq y node) [
-          | inl e ↦ let one = one_left in let zero : slice_index waits node ≡ 0 = subst (λ k. slice_index waits k ≡ 0) e none in absurd (omega (arith, one, zero))
+          | inl e ↦ let one = one_left in let zero : slice_index waits node ≡ 0 = subst (λ k. slice_index waits k ≡ 0) e none in
+              absurd (omega (arith, one, zero))
           | inr ne ↦ inr ((λ e. some (sym (apart y ne) ∙ e)), kept_at y ne ∙ none)
         ]
       ]
@@ -133,7 +138,8 @@ pub record AreFree (leader_of waits free : List ℕ) (node : ℕ) : Type 0 where
   pub all : (x : ℕ) → x < node → slice_index leader_of x ≡ x → slice_index waits x ≡ 0 → Has free x
 
 pub free_offered : (leader_of waits old new : List ℕ) (node : ℕ) → AreFree leader_of waits old node → slice_index leader_of node ≡ node →
-    ((x : ℕ) → Has new x → Has old x ⊎ ((x ≡ node) × (slice_index waits node ≡ 0))) → ((x : ℕ) → Has old x → Has new x) → (slice_index waits node ≡ 0 → Has new node) → AreFree leader_of waits new (node + 1)
+    ((x : ℕ) → Has new x → Has old x ⊎ ((x ≡ node) × (slice_index waits node ≡ 0))) → ((x : ℕ) → Has old x → Has new x) →
+    (slice_index waits node ≡ 0 → Has new node) → AreFree leader_of waits new (node + 1)
 free_offered leader_of waits old new node was leads from kept added = record {
   leader = λ x has. elim (from x has) [
     | inl before ↦ let (low, leader, none) = was.leader x before in (omega (arith, low), leader, none)
@@ -145,7 +151,8 @@ free_offered leader_of waits old new node was leads from kept added = record {
   ];
 }
 
-pub free_passed : (leader_of waits free : List ℕ) (node : ℕ) → AreFree leader_of waits free node → slice_index leader_of node ≢ node → AreFree leader_of waits free (node + 1)
+pub free_passed : (leader_of waits free : List ℕ) (node : ℕ) → AreFree leader_of waits free node → slice_index leader_of node ≢ node →
+    AreFree leader_of waits free (node + 1)
 free_passed leader_of waits free node was other = record {
   leader = λ x has. let (low, leader, none) = was.leader x has in (omega (arith, low), leader, none);
   all = λ x low leader none. elim (cases_eq x node) [

@@ -1,5 +1,6 @@
 -- Each step of a search keeps what it knows, and leaves less to do.
-use Rattle.std.proofs.Common.{◌≡◌, ◌≢◌, inl, inr, refl, sym, subst, ◌∙◌, ap, arith, ℕ, ◌<◌, ◌≤◌, ◌+◌, ◌-◌, List, [], ◌∷◌, ◌++◌, length, take, drop, Vec, slice_index_or}
+use Rattle.std.proofs.Common.{◌≡◌, ◌≢◌, inl, inr, refl, sym, subst, ◌∙◌, ap, arith, ℕ, ◌<◌, ◌≤◌, ◌+◌, ◌-◌, List, [], ◌∷◌, ◌++◌, length, take, drop, Vec}
+use Rattle.std.proofs.Common.{slice_index_or}
 use Rattle.std.proofs.Math.ListN.{set}
 use Rattle.std.specs.declared.alloc.Global.{Global}
 use Rattle.std.proofs.lemmas.Bool.{cases_eq}
@@ -45,7 +46,8 @@ module _ (edges : List (ℕ × ℕ)) (rows : List (Vec ℕ Global)) (graph : IsG
       ]
 
   -- the last edge waits
-  last_waits : (place target : ℕ) → s.waiting.items ≡ take (length s.waiting.items - 1) s.waiting.items ++ (place, target) ∷ [] → Has s.waiting.items (place, target)
+  last_waits : (place target : ℕ) → s.waiting.items ≡ take (length s.waiting.items - 1) s.waiting.items ++ (place, target) ∷ [] →
+      Has s.waiting.items (place, target)
   last_waits place target e =
       let front : List (ℕ × ℕ) = take (length s.waiting.items - 1) s.waiting.items in
       (length front, subst (λ (xs : List (ℕ × ℕ)). At xs (length front) (place, target)) (sym e) (at_last front (place, target)))
@@ -56,7 +58,8 @@ module _ (edges : List (ℕ × ℕ)) (rows : List (Vec ℕ Global)) (graph : IsG
       (edge_within (length rows) edges graph.within from.0 target from.2).1
 
   -- the search goes onto a node that the last group leads to, or begins with one
-  pub entered_on : (target : ℕ) (row : Vec ℕ Global) (s' : Search) → ((i a : ℕ) → At s.path.items i a → Walk edges a target) → At rows target row → IsUnseen s.marks.items target →
+  pub entered_on : (target : ℕ) (row : Vec ℕ Global) (s' : Search) → ((i a : ℕ) → At s.path.items i a → Walk edges a target) → At rows target row →
+      IsUnseen s.marks.items target →
       HasEntered target row.items s s' → HasGone edges rows s s'
   entered_on target row s' reach at unseen is' =
       let ms : List Mark = s.marks.items in
@@ -64,17 +67,22 @@ module _ (edges : List (ℕ × ℕ)) (rows : List (Vec ℕ Global)) (graph : IsG
       let h : target < length rows = at_within rows target row at in
       let items : row.items ≡ targets edges target = graph.targets target row at in
       let there : (w : ℕ) → Has row.items w → HasEdge edges target w = λ w has. in_row edges target w (subst (λ (xs : List ℕ). Has xs w) items has) in
-      let all : (w : ℕ) → HasEdge edges target w → Has row.items w = λ w edge. subst (λ (xs : List ℕ). Has xs w) (sym items) (edge_in_row edges target w edge) in
-      let fewer : rows_left rows (set ms target (OnPath (length path))) + (length row.items + 2) ≡ rows_left rows ms = rows_fewer rows ms target (length path) row at unseen in
+      let all : (w : ℕ) → HasEdge edges target w → Has row.items w = λ w edge. subst (λ (xs : List ℕ). Has xs w) (sym items)
+      (edge_in_row edges target w edge) in
+      let fewer : rows_left rows (set ms target (OnPath (length path))) + (length row.items + 2) ≡ rows_left rows ms = rows_fewer rows ms target
+      (length path) row at unseen in
       let left : rows_left rows s'.marks.items ≡ rows_left rows (set ms target (OnPath (length path))) = ap (λ (x : List Mark). rows_left rows x) is'.marks in
       let longer : length s'.path.items ≡ length path + 1 = ap (λ (x : List ℕ). length x) is'.path ∙ length_push path target in
       let waits : length s'.waiting.items ≡ length s.waiting.items + length row.items =
-      ap (λ (x : List (ℕ × ℕ)). length x) is'.waiting ∙ length-append s.waiting.items (edges_from (length path) row.items) ∙ ap (λ k. length s.waiting.items + k) (length-map row.items (λ w. (length path, w))) in
+      ap (λ (x : List (ℕ × ℕ)). length x) is'.waiting ∙ length-append s.waiting.items (edges_from (length path) row.items)
+      ∙ ap (λ k. length s.waiting.items + k) (length-map row.items (λ w. (length path, w))) in
       record {
-        going = going_by s' (set ms target (OnPath (length path))) (path ++ target ∷ []) (s.bottoms.items ++ length path ∷ []) (s.waiting.items ++ edges_from (length path) row.items) s.leaders.items
+        going = going_by s' (set ms target (OnPath (length path))) (path ++ target ∷ []) (s.bottoms.items ++ length path ∷ [])
+            (s.waiting.items ++ edges_from (length path) row.items) s.leaders.items
             (entered (length rows) edges ms path s.bottoms.items s.waiting.items s.leaders.items is target row.items h unseen reach there all)
             is'.marks is'.path is'.bottoms is'.waiting is'.leaders;
-        met = λ v un. unseen_before (length rows) edges ms path s.bottoms.items s.waiting.items s.leaders.items is target row.items h unseen reach there all v (subst (λ (x : List Mark). IsUnseen x v) is'.marks un);
+        met = λ v un. unseen_before (length rows) edges ms path s.bottoms.items s.waiting.items s.leaders.items is target row.items h unseen reach there all v
+            (subst (λ (x : List Mark). IsUnseen x v) is'.marks un);
         less = omega (arith, fewer, left, longer, waits);
       }
 
@@ -85,8 +93,10 @@ module _ (edges : List (ℕ × ℕ)) (rows : List (Vec ℕ Global)) (graph : IsG
       along (to_last edges s.path.items s.bottoms.items is.way bottom (top bottom last) i place a from.0 low at from.1) from.2
 
   -- the last edge leads to a node that was met
-  pub settled_on : (target : ℕ) (m : Mark) (s' : Search) → LeadsOn s target → At s.marks.items target m → m ≢ Unseen → s'.marks.items ≡ s.marks.items → s'.path.items ≡ s.path.items →
-      HasJoined m s.bottoms.items s'.bottoms.items → s'.waiting.items ≡ take (length s.waiting.items - 1) s.waiting.items → s'.leaders.items ≡ s.leaders.items → HasGone edges rows s s'
+  pub settled_on : (target : ℕ) (m : Mark) (s' : Search) → LeadsOn s target → At s.marks.items target m → m ≢ Unseen → s'.marks.items ≡ s.marks.items →
+      s'.path.items ≡ s.path.items →
+      HasJoined m s.bottoms.items s'.bottoms.items → s'.waiting.items ≡ take (length s.waiting.items - 1) s.waiting.items → s'.leaders.items ≡ s.leaders.items →
+      HasGone edges rows s s'
   settled_on target m s' (bottom, last, place, low, wait) at met e1 e2 joined e4 e5 =
       let front : List (ℕ × ℕ) = take (length s.waiting.items - 1) s.waiting.items in
       let from = is.waits place target (last_waits place target wait) in
@@ -105,11 +115,13 @@ module _ (edges : List (ℕ × ℕ)) (rows : List (Vec ℕ Global)) (graph : IsG
       }
     where
       cases : (m : Mark) → At s.marks.items target m → m ≢ Unseen → HasJoined m s.bottoms.items s'.bottoms.items →
-          IsSearch (length rows) edges s.marks.items s.path.items s'.bottoms.items s.waiting.items s.leaders.items × IsSettled s.marks.items s'.bottoms.items place target
+          IsSearch (length rows) edges s.marks.items s.path.items s'.bottoms.items s.waiting.items s.leaders.items
+          × IsSettled s.marks.items s'.bottoms.items place target
       cases Unseen at met joined = absurd (met refl)
       cases (OnPath j) at met joined = (
         grown (length rows) edges s.marks.items s.path.items s.bottoms.items s.waiting.items s.leaders.items is bottom (top bottom last) place j target low
-            (last_waits place target wait) at s'.bottoms.items joined.rising joined.kept (λ b has le. joined.all b has (λ k e. let k_is : j ≡ k = cc e in omega (arith, k_is, le))),
+            (last_waits place target wait) at s'.bottoms.items joined.rising joined.kept
+            (λ b has le. joined.all b has (λ k e. let k_is : j ≡ k = cc e in omega (arith, k_is, le))),
         inr (j, at, λ b has le. joined.low b j has refl),
       )
       cases (Closed c) at met joined = (
@@ -117,14 +129,20 @@ module _ (edges : List (ℕ × ℕ)) (rows : List (Vec ℕ Global)) (graph : IsG
         inl (c, at),
       )
         where
-          grown_none : HasJoined (Closed c) s.bottoms.items s'.bottoms.items → IsSearch (length rows) edges s.marks.items s.path.items s'.bottoms.items s.waiting.items s.leaders.items
-          grown_none joined = regrouped (length rows) edges s.marks.items s.path.items s.bottoms.items s.waiting.items s.leaders.items is s'.bottoms.items (record {
-            onward = is.way.onward;
-            back = λ i a b ati atb. elim (is.way.back i a b ati atb) [ inl has ↦ inl (joined.all (i + 1) has (λ k e. absurd (cc e))) | inr walk ↦ inr walk ];
-            rising = joined.rising;
-            low = λ b has. is.way.low b (joined.kept b has);
-            first = λ h. joined.all 0 (is.way.first h) (λ k e. absurd (cc e));
-          }) joined.kept
+          grown_none : HasJoined (Closed c) s.bottoms.items s'.bottoms.items → IsSearch (length rows) edges s.marks.items s.path.items s'.bottoms.items
+              s.waiting.items s.leaders.items
+          grown_none joined = regrouped (length rows) edges s.marks.items s.path.items s.bottoms.items s.waiting.items s.leaders.items is
+              s'.bottoms.items (record {
+                onward = is.way.onward;
+                back = λ i a b ati atb. elim (is.way.back i a b ati atb) [
+                  | inl has ↦
+                      inl (joined.all (i + 1) has (λ k e. absurd (cc e)))
+                  | inr walk ↦ inr walk
+                ];
+                rising = joined.rising;
+                low = λ b has. is.way.low b (joined.kept b has);
+                first = λ h. joined.all 0 (is.way.first h) (λ k e. absurd (cc e));
+              }) joined.kept
 
   pub group_inside : (bottom : ℕ) → IsLastGroup s bottom → bottom < length s.path.items
   group_inside bottom last =
@@ -147,9 +165,11 @@ module _ (edges : List (ℕ × ℕ)) (rows : List (Vec ℕ Global)) (graph : IsG
       ]
 
   -- the last group is closed
-  pub closed_on : (bottom l : ℕ) (s' : Search) → IsLastGroup s bottom → IsDone s bottom → IsMarked s.marks.items s'.marks.items (drop bottom s.path.items) (length s.leaders.items) →
+  pub closed_on : (bottom l : ℕ) (s' : Search) → IsLastGroup s bottom → IsDone s bottom → IsMarked s.marks.items s'.marks.items (drop bottom s.path.items)
+      (length s.leaders.items) →
       Has (drop bottom s.path.items) l → ((i v : ℕ) → At (drop bottom s.path.items) i v → l ≤ v) → s'.path.items ≡ take bottom s.path.items →
-      s'.bottoms.items ≡ take (length s.bottoms.items - 1) s.bottoms.items → s'.waiting.items ≡ s.waiting.items → s'.leaders.items ≡ s.leaders.items ++ l ∷ [] → HasGone edges rows s s'
+      s'.bottoms.items ≡ take (length s.bottoms.items - 1) s.bottoms.items → s'.waiting.items ≡ s.waiting.items → s'.leaders.items ≡ s.leaders.items ++ l ∷ [] →
+      HasGone edges rows s s'
   closed_on bottom l s' last done marked has least e2 e3 e4 e5 =
       let front : List ℕ = take (length s.bottoms.items - 1) s.bottoms.items in
       let closing = closing_of s.marks.items s'.marks.items s.path.items bottom (length s.leaders.items) marked in
@@ -160,11 +180,13 @@ module _ (edges : List (ℕ × ℕ)) (rows : List (Vec ℕ Global)) (graph : IsG
       let short : length s'.path.items ≡ bottom = ap (λ (x : List ℕ). length x) e2 ∙ length-take-le bottom s.path.items (omega (arith, inside)) in
       let waits : length s'.waiting.items ≡ length s.waiting.items = ap (λ (x : List (ℕ × ℕ)). length x) e4 in
       let met : (v : ℕ) → IsUnseen s'.marks.items v → IsUnseen s.marks.items v =
-      unseen_still (length rows) edges s.marks.items s'.marks.items s.path.items front bottom s.waiting.items s.leaders.items l is' (none_waits bottom done) closing low member in
+      unseen_still (length rows) edges s.marks.items s'.marks.items s.path.items front bottom s.waiting.items s.leaders.items l is' (none_waits bottom done)
+      closing low member in
       let left = rows_no_more rows s.marks.items s'.marks.items met in
       record {
         going = going_by s' s'.marks.items (take bottom s.path.items) front s.waiting.items (s.leaders.items ++ l ∷ [])
-            (closed_group (length rows) edges s.marks.items s'.marks.items s.path.items front bottom s.waiting.items s.leaders.items l is' (none_waits bottom done) closing low member)
+            (closed_group (length rows) edges s.marks.items s'.marks.items s.path.items front bottom s.waiting.items s.leaders.items l is'
+            (none_waits bottom done) closing low member)
             refl e2 e3 e4 e5;
         met = met;
         less = omega (arith, short, inside, waits, left);
@@ -174,11 +196,13 @@ module _ (edges : List (ℕ × ℕ)) (rows : List (Vec ℕ Global)) (graph : IsG
 pub not_unseen : (node : ℕ) (row : List ℕ) (s s' : Search) → node < length s.marks.items → HasEntered node row s s' → IsUnseen s'.marks.items node → ⊥
 not_unseen node row s s' h is un =
     let place : ℕ = length s.path.items in
-    let here : At s'.marks.items node (OnPath place) = subst (λ (ms : List Mark). At ms node (OnPath place)) (sym is.marks) (get_set_same s.marks.items node (OnPath place) h) in
+    let here : At s'.marks.items node (OnPath place) = subst (λ (ms : List Mark). At ms node (OnPath place)) (sym is.marks)
+    (get_set_same s.marks.items node (OnPath place) h) in
     unseen_on_path place (at_one s'.marks.items node Unseen (OnPath place) un here)
 
 -- the search goes onto a node as its first
-pub started : (edges : List (ℕ × ℕ)) (rows : List (Vec ℕ Global)) (s s' : Search) (node : ℕ) (row : Vec ℕ Global) (mark : Mark) (targets : List ℕ) → IsGraph edges rows → IsGoing edges rows s →
+pub started : (edges : List (ℕ × ℕ)) (rows : List (Vec ℕ Global)) (s s' : Search) (node : ℕ) (row : Vec ℕ Global) (mark : Mark) (targets : List ℕ) →
+    IsGraph edges rows → IsGoing edges rows s →
     s.path.items ≡ [] → node < length rows → row ≡ slice_index_or rows node row → mark ≡ slice_index_or s.marks.items node mark → mark ≡ Unseen →
     targets ≡ (slice_index_or rows node row).items → HasEntered node targets s s' → HasGone edges rows s s'
 started edges rows s s' node row mark targets graph is none h read seen unseen same entered =

@@ -1,5 +1,6 @@
 -- Where the search has closed all nodes, the leaders that it found are those of the units.
-use Rattle.std.proofs.Common.{◌≡◌, inl, inr, refl, sym, subst, ◌∙◌, ap, arith, ℕ, ◌<◌, ◌≤◌, ◌+◌, List, [], ◌∷◌, ◌++◌, length, Option, Some, None, slice_get, slice_index, Result, Ok, Err, IfOk}
+use Rattle.std.proofs.Common.{◌≡◌, inl, inr, refl, sym, subst, ◌∙◌, ap, arith, ℕ, ◌<◌, ◌≤◌, ◌+◌, List, [], ◌∷◌, ◌++◌, length, Option, Some, None, slice_get}
+use Rattle.std.proofs.Common.{slice_index, Result, Ok, Err, IfOk}
 use Rattle.std.proofs.lemmas.Bool.{cases_eq}
 use Rattle.std.proofs.lemmas.List.{get_or_push, get_or_append_left}
 use Rattle.dp_units.specs.steps.Entries.{At}
@@ -82,13 +83,15 @@ module _ (n : ℕ) (edges : List (ℕ × ℕ)) (within : AreWithin n edges) (ms 
           elim (cases_eq d c) [
             | inl equal ↦
                 let there = (lead_at a c at_a).0 in
-                inl (at_one ls c (slice_index leader_of a) (slice_index leader_of b) there (subst (λ k. At ls k (slice_index leader_of b)) equal (lead_at b d at_b).0))
+                inl (at_one ls c (slice_index leader_of a) (slice_index leader_of b) there (subst (λ k. At ls k (slice_index leader_of b)) equal
+                (lead_at b d at_b).0))
             | inr ne ↦ inr (omega (arith, ra, rb, low, ne))
           ];
     }
 
 -- where the search has closed all nodes, each mark says so
-pub all_closed : (n : ℕ) (edges : List (ℕ × ℕ)) (within : AreWithin n edges) (ms : List Mark) (path bs : List ℕ) (ws : List (ℕ × ℕ)) (ls : List ℕ) → IsSearch n edges ms path bs ws ls → path ≡ [] →
+pub all_closed : (n : ℕ) (edges : List (ℕ × ℕ)) (within : AreWithin n edges) (ms : List Mark) (path bs : List ℕ) (ws : List (ℕ × ℕ)) (ls : List ℕ) →
+    IsSearch n edges ms path bs ws ls → path ≡ [] →
     ((v : ℕ) → v < n → IsUnseen ms v → ⊥) → (v : ℕ) (m : Mark) → At ms v m → (c : ℕ) × (m ≡ Closed c) × (c < length ls)
 all_closed n edges within ms path bs ws ls is none met v m at = by m at
   where
@@ -97,13 +100,16 @@ all_closed n edges within ms path bs ws ls is none met v m at = by m at
     by (OnPath i) at = absurd (at_none i v (subst (λ (xs : List ℕ). At xs i v) none (is.placed v i at)))
     by (Closed c) at = let led = is.led c v at in (c, refl, at_within ls c led.0 led.1)
 
-pub leaders_are : (n : ℕ) (edges : List (ℕ × ℕ)) (within : AreWithin n edges) (ms : List Mark) (path bs : List ℕ) (ws : List (ℕ × ℕ)) (ls : List ℕ) → IsSearch n edges ms path bs ws ls → path ≡ [] →
-    ((v : ℕ) → v < n → IsUnseen ms v → ⊥) → (leader_of : List ℕ) → length leader_of ≡ length ms → ((v c l : ℕ) → At ms v (Closed c) → At ls c l → slice_index leader_of v ≡ l) → AreLeaders n edges leader_of
+pub leaders_are : (n : ℕ) (edges : List (ℕ × ℕ)) (within : AreWithin n edges) (ms : List Mark) (path bs : List ℕ) (ws : List (ℕ × ℕ)) (ls : List ℕ) →
+    IsSearch n edges ms path bs ws ls → path ≡ [] →
+    ((v : ℕ) → v < n → IsUnseen ms v → ⊥) → (leader_of : List ℕ) → length leader_of ≡ length ms → ((v c l : ℕ) → At ms v (Closed c) → At ls c l →
+    slice_index leader_of v ≡ l) → AreLeaders n edges leader_of
 leaders_are n edges within ms path bs ws ls is none met leader_of long made =
     are_leaders n edges within ms bs ws ls (subst (λ (xs : List ℕ). IsSearch n edges ms xs bs ws ls) none is) met leader_of (long ∙ is.each) made
 
 -- one node more has its leader
-pub leader_more : (ms : List Mark) (ls leader_of : List ℕ) (i leader : ℕ) (mark : Mark) → length leader_of ≡ i → At ms i mark → ((c : ℕ) → mark ≡ Closed c → At ls c leader) →
+pub leader_more : (ms : List Mark) (ls leader_of : List ℕ) (i leader : ℕ) (mark : Mark) → length leader_of ≡ i → At ms i mark →
+    ((c : ℕ) → mark ≡ Closed c → At ls c leader) →
     ((v c l : ℕ) → v < i → At ms v (Closed c) → At ls c l → slice_index leader_of v ≡ l) →
     (v c l : ℕ) → v < i + 1 → At ms v (Closed c) → At ls c l → slice_index (leader_of ++ leader ∷ []) v ≡ l
 leader_more ms ls leader_of i leader mark long at is before v c l h closed there = elim (cases_eq v i) [

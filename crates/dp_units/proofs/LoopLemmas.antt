@@ -1,5 +1,6 @@
 -- Steps of the loops that a search is made of.
-use Rattle.std.proofs.Common.{◌≡◌, ◌≢◌, inl, inr, refl, sym, subst, ◌∙◌, ap, arith, ℕ, ◌<◌, ◌≤◌, ◌+◌, ◌-◌, ◌==◌, if◌then◌else◌, min, true, false, List, [], ◌∷◌, ◌++◌, length, take, drop, Vec, slice_index_or}
+use Rattle.std.proofs.Common.{◌≡◌, ◌≢◌, inl, inr, refl, sym, subst, ◌∙◌, ap, arith, ℕ, ◌<◌, ◌≤◌, ◌+◌, ◌-◌, ◌==◌, if◌then◌else◌, min, true, false, List, [], ◌∷◌}
+use Rattle.std.proofs.Common.{◌++◌, length, take, drop, Vec, slice_index_or}
 use Rattle.std.proofs.Math.ListN.{set, length-set}
 use Rattle.std.specs.declared.alloc.Global.{Global}
 use Rattle.std.proofs.lemmas.Bool.{cases_lt, cases_eq, eq-eqb, ne_eqb}
@@ -18,7 +19,8 @@ pub item_at : {X : Type 0} (xs : List X) (i : ℕ) (d : X) → i < length xs →
 item_at xs i d h = slice_get-get_or xs i d h
 
 -- one node more is closed
-pub marked_more : (marks now : List Mark) (nodes : List ℕ) (i unit : ℕ) → i < length nodes → slice_index_or nodes i 0 < length marks → IsMarked marks now (take i nodes) unit →
+pub marked_more : (marks now : List Mark) (nodes : List ℕ) (i unit : ℕ) → i < length nodes → slice_index_or nodes i 0 < length marks →
+    IsMarked marks now (take i nodes) unit →
     IsMarked marks (set now (slice_index_or nodes i 0) (Closed unit)) (take (i + 1) nodes) unit
 marked_more marks now nodes i unit h low is =
     let node : ℕ = slice_index_or nodes i 0 in
@@ -34,16 +36,25 @@ marked_more marks now nodes i unit h low is =
         ]
       ];
       kept = λ v m at none. at_unset now node (Closed unit) v m
-          (λ same. none (length (take i nodes)) (subst (λ x. At (take i nodes ++ node ∷ []) (length (take i nodes)) x) (sym same) (at_last (take i nodes) node)))
+          (λ same. none (length (take i nodes)) (subst (λ x. At (take i nodes ++ node ∷ []) (length (take i nodes)) x) (sym same)
+          (at_last (take i nodes) node)))
           (is.kept v m at (λ k on. none k (at_kept (take i nodes) (node ∷ []) k v on)));
       others = λ v m at. elim (at_set now node (Closed unit) v m long at) [
-        | inl new ↦ inr (new.1, (length (take i nodes), subst (λ x. At (take i nodes ++ node ∷ []) (length (take i nodes)) x) (sym new.0) (at_last (take i nodes) node)))
+        | inl new ↦ inr (
+          new.1,
+          (
+            length (take i nodes),
+            subst (λ x. At (take i nodes ++ node ∷ []) (length (take i nodes)) x) (sym new.0) (at_last
+                (take i nodes) node),
+          ),
+        )
         | inr old ↦ elim (is.others v m old.1) [ inl was ↦ inl was | inr (same, has) ↦ inr (same, has_kept (take i nodes) (node ∷ []) v has) ]
       ];
     })
 
 -- one edge more stands in its row
-pub row_more : (rows : List (Vec ℕ Global)) (edges : List (ℕ × ℕ)) (i from to : ℕ) (old new : Vec ℕ Global) → i < length edges → slice_index_or edges i (0, 0) ≡ (from, to) →
+pub row_more : (rows : List (Vec ℕ Global)) (edges : List (ℕ × ℕ)) (i from to : ℕ) (old new : Vec ℕ Global) → i < length edges →
+    slice_index_or edges i (0, 0) ≡ (from, to) →
     from < length rows → At rows from old → new.items ≡ old.items ++ to ∷ [] →
     ((node : ℕ) (row : Vec ℕ Global) → At rows node row → row.items ++ targets (drop i edges) node ≡ targets edges node) →
     (node : ℕ) (row : Vec ℕ Global) → At (set rows from new) node row → row.items ++ targets (drop (i + 1) edges) node ≡ targets edges node
@@ -83,7 +94,8 @@ is_graph edges rows count i long within past each = record {
 pub least_more : (nodes : List ℕ) (least i : ℕ) → i < length nodes → Has nodes least → Has nodes (min least (slice_index_or nodes i 0))
 least_more nodes least i h has = elim (cases_lt least (slice_index_or nodes i 0)) [
   | inl low ↦ let e : least ≡ min least (slice_index_or nodes i 0) = omega (arith, low) in subst (λ k. Has nodes k) e has
-  | inr high ↦ let e : slice_index_or nodes i 0 ≡ min least (slice_index_or nodes i 0) = omega (arith, high) in subst (λ k. Has nodes k) e (i, item_at nodes i 0 h)
+  | inr high ↦ let e : slice_index_or nodes i 0 ≡ min least (slice_index_or nodes i 0) = omega (arith, high) in
+      subst (λ k. Has nodes k) e (i, item_at nodes i 0 h)
 ]
 
 pub least_below : (nodes : List ℕ) (least i : ℕ) → i < length nodes → ((k node : ℕ) → k < i → At nodes k node → least ≤ node) →

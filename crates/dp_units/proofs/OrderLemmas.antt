@@ -1,5 +1,6 @@
 -- A turn of the loop that takes the units.
-use Rattle.std.proofs.Common.{◌≡◌, ◌≢◌, ◌⊎◌, inl, inr, refl, sym, subst, ◌∙◌, ap, arith, ℕ, suc, ◌<◌, ◌≤◌, ◌+◌, List, [], ◌∷◌, ◌++◌, length, take, drop, Vec, All, slice_get, slice_index, slice_index_or, true, false}
+use Rattle.std.proofs.Common.{◌≡◌, ◌≢◌, ◌⊎◌, inl, inr, refl, sym, subst, ◌∙◌, ap, arith, ℕ, suc, ◌<◌, ◌≤◌, ◌+◌, List, [], ◌∷◌, ◌++◌, length, take, drop, Vec}
+use Rattle.std.proofs.Common.{All, slice_get, slice_index, slice_index_or, true, false}
 use Rattle.std.proofs.Math.ListN.{set}
 use Rattle.std.specs.declared.alloc.Global.{Global}
 use Rattle.std.specs.Ordering.{nat_cmp}
@@ -31,9 +32,11 @@ all_above k ks all x (i, at) =
     below : (x y : ℕ) → IsLtBy nat_cmp x y → x < y
     below x y lt = grind (arith, common_steps, lt)
 
-module _ {n : ℕ} {edges : List (ℕ × ℕ)} {leader_of : List ℕ} {between : List (ℕ × ℕ)} (within : AreWithin n edges) (leads : AreLeaders n edges leader_of) (apart : AreBetween edges leader_of between)
+module _ {n : ℕ} {edges : List (ℕ × ℕ)} {leader_of : List ℕ} {between : List (ℕ × ℕ)} (within : AreWithin n edges) (leads : AreLeaders n edges leader_of)
+    (apart : AreBetween edges leader_of between)
     {shown : List (ℕ × ℕ)} {rows : List (Vec ℕ Global)} (is_shown : shown ≡ between) (made : IsGraph shown rows) (long : length rows ≡ n)
-    {places order waits free : List ℕ} (is : IsTaking n edges leader_of between places order waits free) {l : ℕ} {rest : List ℕ} (removal : free ≡ l ∷ rest) where
+    {places order waits free : List ℕ} (is : IsTaking n edges leader_of between places order waits free) {l : ℕ} {rest : List ℕ}
+    (removal : free ≡ l ∷ rest) where
   graph : IsGraph between rows
   graph = subst (λ (es : List (ℕ × ℕ)). IsGraph es rows) is_shown made
 
@@ -83,6 +86,8 @@ no_keys [] none = refl
 no_keys (k ∷ ks) none = let bad : false ≡ true = none (omega arith) in absurd (cc bad)
 
 -- no leader is free any more
-pub none_free : {n : ℕ} {edges : List (ℕ × ℕ)} {leader_of : List ℕ} {between : List (ℕ × ℕ)} {places order waits free : List ℕ} → IsTaking n edges leader_of between places order waits free → ((0 < length free) → false ≡ true) →
+pub none_free : {n : ℕ} {edges : List (ℕ × ℕ)} {leader_of : List ℕ} {between : List (ℕ × ℕ)} {places order waits free : List ℕ} →
+    IsTaking n edges leader_of between places order waits free → ((0 < length free) → false ≡ true) →
     IsTaking n edges leader_of between places order waits []
-none_free {n} {edges} {leader_of} {between} {places} {order} {waits} {free} is none = subst (λ (ks : List ℕ). IsTaking n edges leader_of between places order waits ks) (no_keys free none) is
+none_free {n} {edges} {leader_of} {between} {places} {order} {waits} {free} is none =
+    subst (λ (ks : List ℕ). IsTaking n edges leader_of between places order waits ks) (no_keys free none) is

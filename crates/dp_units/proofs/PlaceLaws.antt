@@ -35,7 +35,9 @@ module _ (n : ℕ) (edges : List (ℕ × ℕ)) (order places : List ℕ) (ordere
         let to_leader : Walk edges a (leader b) = walk_on edges walk (placed.same b hb).1 in
         elim ((ordered.next (place b) lb).free.ready a to_leader) [
           | inl same ↦ absurd (not_again n edges order ordered (place b) (place a) below la (turned (joined (placed.same a ha) same)))
-          | inr taken ↦ absurd ((ordered.next (place a) la).free.left (taken.0, more_taken order taken.0 (place b) (place a) (omega (arith, below)) taken.1, joined taken.2 (turned (placed.same a ha))))
+          | inr taken ↦ absurd
+              ((ordered.next (place a) la).free.left
+              (taken.0, more_taken order taken.0 (place b) (place a) (omega (arith, below)) taken.1, joined taken.2 (turned (placed.same a ha))))
         ]
   ]
 
@@ -48,7 +50,11 @@ module _ (n : ℕ) (edges : List (ℕ × ℕ)) (order places : List ℕ) (ordere
       let same : SameUnit edges (leader node) node = placed.same node h in
       elim (cases_lt (place node) k) [
         | inl below ↦ absurd (not_again n edges order ordered (place node) k below l same)
-        | inr low ↦ elim (cases_lt k (place node)) [ inl above ↦ absurd (not_again n edges order ordered k (place node) above there (turned same)) | inr high ↦ omega (arith, low, high) ]
+        | inr low ↦ elim (cases_lt k (place node)) [
+          | inl above ↦ absurd (not_again n edges order ordered k (place node) above there (turned same))
+          | inr high ↦
+              omega (arith, low, high)
+        ]
       ]
 
   -- the least node stands first where walks lead from it to all others

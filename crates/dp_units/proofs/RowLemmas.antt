@@ -19,18 +19,22 @@ use Rattle.dp_units.proofs.CountLemmas.{first_edge, later_edge}
 pub in_row : (edges : List (ℕ × ℕ)) (v w : ℕ) → Has (targets edges v) w → HasEdge edges v w
 in_row [] v w (i, at) = absurd (at_none i w at)
 in_row (e ∷ edges) v w has = elim (cases_eq e.0 v) [
-  | inl same ↦ here same (subst (λ (xs : List ℕ). Has xs w) (ap (λ t. if t then e.1 ∷ targets edges v else targets edges v) (eq-eqb e.0 v same)) has) (in_row edges v w)
-  | inr ne ↦ later_edge e edges v w (in_row edges v w (subst (λ (xs : List ℕ). Has xs w) (ap (λ t. if t then e.1 ∷ targets edges v else targets edges v) (ne_eqb e.0 v ne)) has))
+  | inl same ↦ here same (subst (λ (xs : List ℕ). Has xs w) (ap (λ t. if t then e.1 ∷ targets edges v else targets edges v) (eq-eqb e.0 v same))
+      has) (in_row edges v w)
+  | inr ne ↦ later_edge e edges v w
+      (in_row edges v w (subst (λ (xs : List ℕ). Has xs w) (ap (λ t. if t then e.1 ∷ targets edges v else targets edges v) (ne_eqb e.0 v ne)) has))
 ]
   where
     here : e.0 ≡ v → Has (e.1 ∷ targets edges v) w → (Has (targets edges v) w → HasEdge edges v w) → HasEdge (e ∷ edges) v w
-    here same (zero, at) rest = subst (λ k. HasEdge (e ∷ edges) v k) (same_Some e.1 w at) (subst (λ k. HasEdge (e ∷ edges) k e.1) same (first_edge edges e.0 e.1))
+    here same (zero, at) rest =
+        subst (λ k. HasEdge (e ∷ edges) v k) (same_Some e.1 w at) (subst (λ k. HasEdge (e ∷ edges) k e.1) same (first_edge edges e.0 e.1))
     here same (suc i, at) rest = later_edge e edges v w (rest (i, at))
 
 pub edge_in_row : (edges : List (ℕ × ℕ)) (v w : ℕ) → HasEdge edges v w → Has (targets edges v) w
 edge_in_row [] v w (i, h, is) = absurd (omega (arith, h))
 edge_in_row (e ∷ edges) v w (zero, h, is) =
-    let row : targets (e ∷ edges) v ≡ e.1 ∷ targets edges v = ap (λ t. if t then e.1 ∷ targets edges v else targets edges v) (eq-eqb e.0 v (ap (λ (p : ℕ × ℕ). p.0) is)) in
+    let row : targets (e ∷ edges) v ≡ e.1 ∷ targets edges v = ap (λ t. if t then e.1 ∷ targets edges v else targets edges v)
+    (eq-eqb e.0 v (ap (λ (p : ℕ × ℕ). p.0) is)) in
     subst (λ (xs : List ℕ). Has xs w) (sym row) (0, ap (λ (p : ℕ × ℕ). Some p.1) is)
 edge_in_row (e ∷ edges) v w (suc i, h, is) =
     let rest = edge_in_row edges v w (i, omega (arith, h), is) in
@@ -61,10 +65,12 @@ more_rows r rows Unseen marks = omega arith
 more_rows r rows _ marks = omega arith
 
 -- what is met stays so, and nothing comes to what is left
-pub rows_no_more : (rows : List (Vec ℕ Global)) (marks now : List Mark) → ((v : ℕ) → IsUnseen now v → IsUnseen marks v) → rows_left rows now ≤ rows_left rows marks
+pub rows_no_more : (rows : List (Vec ℕ Global)) (marks now : List Mark) → ((v : ℕ) → IsUnseen now v → IsUnseen marks v) →
+    rows_left rows now ≤ rows_left rows marks
 rows_no_more [] marks now back = omega arith
 rows_no_more (r ∷ rows) marks [] back = omega arith
-rows_no_more (r ∷ rows) [] (m ∷ now) back = let none = rows_no_more rows [] now (λ v un. absurd (at_none (suc v) Unseen (back (suc v) un))) in first m (back 0) none
+rows_no_more (r ∷ rows) [] (m ∷ now) back = let none = rows_no_more rows [] now (λ v un. absurd (at_none (suc v) Unseen (back (suc v) un))) in
+    first m (back 0) none
   where
     nothing : (rows : List (Vec ℕ Global)) → rows_left rows [] ≡ 0
     nothing [] = refl
@@ -75,7 +81,8 @@ rows_no_more (r ∷ rows) [] (m ∷ now) back = let none = rows_no_more rows [] 
     first _ back low = let e = nothing rows in omega (arith, low, e)
 rows_no_more (r ∷ rows) (k ∷ marks) (m ∷ now) back = let rest = rows_no_more rows marks now (λ v un. back (suc v) un) in first m (back 0) rest
   where
-    first : (m : Mark) → (IsUnseen (m ∷ now) 0 → IsUnseen (k ∷ marks) 0) → rows_left rows now ≤ rows_left rows marks → rows_left (r ∷ rows) (m ∷ now) ≤ rows_left (r ∷ rows) (k ∷ marks)
+    first : (m : Mark) → (IsUnseen (m ∷ now) 0 → IsUnseen (k ∷ marks) 0) → rows_left rows now ≤ rows_left rows marks →
+        rows_left (r ∷ rows) (m ∷ now) ≤ rows_left (r ∷ rows) (k ∷ marks)
     first (OnPath i) back low = let more = more_rows r rows k marks in omega (arith, low, more)
     first (Closed c) back low = let more = more_rows r rows k marks in omega (arith, low, more)
     first Unseen back low =

@@ -12,8 +12,10 @@ use Rattle.dp_units.specs.steps.Taking.{MayBeTaken, IsTaking, left_over}
 use Rattle.dp_units.proofs.CountLemmas.{left_over_lt, some_left, fewer_wait, edge_of}
 use Rattle.dp_units.proofs.TakeLemmas.{edge_within, lead_within, is_next}
 
-module _ (n : ℕ) (edges : List (ℕ × ℕ)) (leader_of : List ℕ) (between : List (ℕ × ℕ)) (within : AreWithin n edges) (leads : AreLeaders n edges leader_of) (apart : AreBetween edges leader_of between) where
-  module _ (places order waits free : List ℕ) (is : IsTaking n edges leader_of between places order waits free) (l : ℕ) (may : MayBeTaken n leader_of between places l) where
+module _ (n : ℕ) (edges : List (ℕ × ℕ)) (leader_of : List ℕ) (between : List (ℕ × ℕ)) (within : AreWithin n edges) (leads : AreLeaders n edges leader_of)
+    (apart : AreBetween edges leader_of between) where
+  module _ (places order waits free : List ℕ) (is : IsTaking n edges leader_of between places order waits free) (l : ℕ)
+      (may : MayBeTaken n leader_of between places l) where
     abbrev places' : List ℕ
     places' = set places l (length order)
 
@@ -58,7 +60,8 @@ module _ (n : ℕ) (edges : List (ℕ × ℕ)) (leader_of : List ℕ) (between :
     next_now : ((x : ℕ) → Has free x → l ≤ x) → (k : ℕ) → k < length order' → IsNext n edges (take k order') (slice_index order' k)
     next_now least k h = elim (cases_eq k (length order)) [
       | inl new ↦
-          let front : take k order' ≡ order = ap (λ k. take k order') new ∙ take-append-le (length order) order (l ∷ []) (omega arith) ∙ take_all (length order) order (omega arith) in
+          let front : take k order' ≡ order = ap (λ k. take k order') new ∙ take-append-le (length order) order (l ∷ []) (omega arith)
+          ∙ take_all (length order) order (omega arith) in
           let there : slice_index order' k ≡ l = ap (λ k. slice_index order' k) new ∙ last in
           subst (λ (xs : List ℕ). IsNext n edges xs (slice_index order' k)) (sym front)
           (subst (λ x. IsNext n edges order x) (sym there) (is_next n edges leader_of between within leads apart places order waits free is l may least))
@@ -75,7 +78,8 @@ module _ (n : ℕ) (edges : List (ℕ × ℕ)) (leader_of : List ℕ) (between :
         (λ k h e. elim (cases_eq k l) [ inl same ↦ ap (λ v. slice_index places v) same ∙ may.left | inr ne ↦ sym (other k ne) ∙ e ])
         inside may.left given_here
 
-    pub taken : (waits' free' rest : List ℕ) → length waits' ≡ n → ((x : ℕ) → x < n → slice_index waits' x + times (targets between l) x ≡ slice_index waits x) →
+    pub taken : (waits' free' rest : List ℕ) → length waits' ≡ n →
+        ((x : ℕ) → x < n → slice_index waits' x + times (targets between l) x ≡ slice_index waits x) →
         ((x : ℕ) → Has rest x → Has free x × (l < x)) → ((x : ℕ) → Has free x → (x ≡ l) ⊎ Has rest x) →
         ((x : ℕ) → Has free' x → Has rest x ⊎ ((times (targets between l) x ≢ 0) × (slice_index waits' x ≡ 0))) →
         ((x : ℕ) → Has rest x → Has free' x) → ((x : ℕ) → times (targets between l) x ≢ 0 → slice_index waits' x ≡ 0 → Has free' x) →
@@ -95,7 +99,8 @@ module _ (n : ℕ) (edges : List (ℕ × ℕ)) (leader_of : List ℕ) (between :
             let low : x < n = subst (λ k. k < n) is_b (lead_within n edges leader_of between within leads apart b in_b) in
             record {
               within = low;
-              leader = subst (λ k. slice_index leader_of k ≡ k) is_b (leads.one (slice_index leader_of b) b (subst (λ k. k < n) (sym is_b) low) in_b (leads.same b in_b));
+              leader = subst (λ k. slice_index leader_of k ≡ k) is_b (leads.one (slice_index leader_of b) b (subst (λ k. k < n) (sym is_b) low) in_b
+                  (leads.same b in_b));
               left = other x (λ e. ne (sym e)) ∙ elim (cases_eq (slice_index places x) n) [
                 | inl left ↦ left
                 | inr has ↦

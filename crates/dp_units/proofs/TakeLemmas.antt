@@ -18,7 +18,8 @@ pub from_within : (n : ℕ) (edges : List (ℕ × ℕ)) → AreWithin n edges �
 from_within n edges within stay h = h
 from_within n edges within (along {between = m} {to = t} before edge) h = from_within n edges within before (edge_within n edges within m t edge).0
 
-module _ (n : ℕ) (edges : List (ℕ × ℕ)) (leader_of : List ℕ) (between : List (ℕ × ℕ)) (within : AreWithin n edges) (leads : AreLeaders n edges leader_of) (apart : AreBetween edges leader_of between) where
+module _ (n : ℕ) (edges : List (ℕ × ℕ)) (leader_of : List ℕ) (between : List (ℕ × ℕ)) (within : AreWithin n edges) (leads : AreLeaders n edges leader_of)
+    (apart : AreBetween edges leader_of between) where
   abbrev lead : ℕ → ℕ
   lead v = slice_index leader_of v
 

@@ -58,7 +58,8 @@ fn in_order(alloc: Global, count: u32, graph: Graph, leader_of: &[u32]) -> Resul
 fn places(alloc: Global, leader_of: &[u32], place_of: &[u32]) -> Result<Vec<u32>, NoMemory>
     requires { (node : ℕ) → node < length leader_of.now → slice_index leader_of.now node < length place_of.now }
     ensures each { IfOk result (λ places. length places.items ≡ length leader_of.now) }
-    ensures made { IfOk result (λ places. (node : ℕ) → node < length leader_of.now → slice_index places.items node ≡ slice_index place_of.now (slice_index leader_of.now node)) }
+    ensures made { IfOk result (λ places. (node : ℕ) → node < length leader_of.now → slice_index places.items node ≡ slice_index place_of.now
+        (slice_index leader_of.now node)) }
 {
     let mut places = Vec::with_capacity(alloc, leader_of.len())?;
     for leader in leader_of {

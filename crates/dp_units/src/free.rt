@@ -15,8 +15,10 @@ pub fn first_free(
 ) -> Result<BTreeSet<u32>, NoMemory>
     requires leaders { length leader_of.now ≡ count }
     requires waits { length waits.now ≡ count }
-    ensures leader { IfOk result (λ free. (node : ℕ) → Has free.keys node → (node < count) × (slice_index leader_of.now node ≡ node) × (slice_index waits.now node ≡ 0)) }
-    ensures all { IfOk result (λ free. (node : ℕ) → node < count → slice_index leader_of.now node ≡ node → slice_index waits.now node ≡ 0 → Has free.keys node) }
+    ensures leader { IfOk result (λ free. (node : ℕ) → Has free.keys node → (node < count) × (slice_index leader_of.now node ≡ node)
+        × (slice_index waits.now node ≡ 0)) }
+    ensures all { IfOk result (λ free. (node : ℕ) → node < count → slice_index leader_of.now node ≡ node → slice_index waits.now node ≡ 0 →
+        Has free.keys node) }
 {
     let mut free = BTreeSet::new(alloc);
     for node in 0..count {

@@ -40,5 +40,6 @@ pub fn units_have_one_order(count: u32, edges: &[(u32, u32)])
 /// Each node has one place in the order.
 #[tactic(auto, using(crate::proofs::OrderOnce::same_places))]
 pub fn nodes_have_one_place(count: u32, edges: &[(u32, u32)])
-    ensures { (order places other : List ℕ) → IsOrder count edges.now order → ArePlaces count edges.now order places → ArePlaces count edges.now order other → places ≡ other }
+    ensures { (order places other : List ℕ) → IsOrder count edges.now order → ArePlaces count edges.now order places →
+        ArePlaces count edges.now order other → places ≡ other }
 {}

@@ -28,7 +28,8 @@ pub fn leaders(alloc: Global, count: u32, graph: Graph) -> Result<Vec<u32>, NoMe
 fn leader_list(alloc: Global, search: &Search) -> Result<Vec<u32>, NoMemory>
     requires { (node : ℕ) (mark : Mark) → At search.now.marks.items node mark → (unit : ℕ) × (mark ≡ Closed unit) × (unit < length search.now.leaders.items) }
     ensures count { IfOk result (λ leader_of. length leader_of.items ≡ length search.now.marks.items) }
-    ensures made { IfOk result (λ leader_of. (node unit leader : ℕ) → At search.now.marks.items node (Closed unit) → At search.now.leaders.items unit leader → slice_index leader_of.items node ≡ leader) }
+    ensures made { IfOk result (λ leader_of. (node unit leader : ℕ) → At search.now.marks.items node (Closed unit) → At search.now.leaders.items unit leader →
+        slice_index leader_of.items node ≡ leader) }
 {
     let mut leader_of = Vec::with_capacity(alloc, search.marks.len())?;
     for mark in search.marks.as_slice() {

@@ -82,7 +82,8 @@ impl Search {
         requires going { (edges : List (ℕ × ℕ)) × (rows : List (Vec ℕ Global)) × IsGraph edges rows × IsGoing edges rows self.old }
         requires last { IsLastGroup self.old bottom }
         requires done { IsDone self.old bottom }
-        ensures { OnOk result ((edges : List (ℕ × ℕ)) (rows : List (Vec ℕ Global)) → IsGraph edges rows → IsGoing edges rows self.old → HasGone edges rows self.old self.new) }
+        ensures { OnOk result ((edges : List (ℕ × ℕ)) (rows : List (Vec ℕ Global)) → IsGraph edges rows → IsGoing edges rows self.old →
+            HasGone edges rows self.old self.new) }
     {
         let unit = self.leaders.len();
         let members = behind(self.path.as_slice(), bottom);
@@ -148,7 +149,8 @@ fn last(bottoms: &[usize]) -> Option<usize>
 
 /// The target of the last edge that waits, where it leads from the last group.
 fn next_target(waiting: &[(usize, u32)], bottom: usize) -> Option<u32>
-    ensures some { IfSome result (λ target. (place : ℕ) × (bottom ≤ place) × (waiting.now ≡ take (length waiting.now - 1) waiting.now ++ (place, target) ∷ [])) }
+    ensures some { IfSome result (λ target. (place : ℕ) × (bottom ≤ place)
+        × (waiting.now ≡ take (length waiting.now - 1) waiting.now ++ (place, target) ∷ [])) }
     ensures none { IfNone result ((place target : ℕ) → At waiting.now (length waiting.now - 1) (place, target) → place < bottom) }
 {
     match waiting.last() {

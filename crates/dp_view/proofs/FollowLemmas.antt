@@ -1,11 +1,17 @@
 -- What is kept of a run's iterations tells which of them are clean.
-use Rattle.dp_semantics.proofs.Names.{◌≡◌, inl, inr, refl, sym, ap, ◌∙◌, subst, arith, ℕ, zero, suc, ◌+◌, ◌-◌, ◌<◌, ◌&&◌, if◌then◌else◌, Bool, true, false, List, [], ◌∷◌, ℤ, pos, length, map, Option, Some, None, cases_eq, Stmt, out-Stmt, Program, Plan, Config, StandsInMain, Event, stored, Run, starts, start, iteration, has_ended, is_closing, memory_after, clear_locals, Past, events_since, is_clean, stage_of, memory_of, Follows, applied, effect_in, last, Epoch, is_checked, sum_by-cons, words_at, word_count, get_or}
+use Rattle.dp_semantics.proofs.Names.{◌≡◌, inl, inr, refl, sym, ap, ◌∙◌, subst, arith, ℕ, zero, suc, ◌+◌, ◌-◌, ◌<◌, ◌&&◌, if◌then◌else◌, Bool, true, false}
+use Rattle.dp_semantics.proofs.Names.{List, [], ◌∷◌, ℤ, pos, length, map, Option, Some, None, cases_eq, Stmt, out-Stmt, Program, Plan, Config, StandsInMain}
+use Rattle.dp_semantics.proofs.Names.{Event, stored, Run, starts, start, iteration, has_ended, is_closing, memory_after, clear_locals, Past, events_since}
+use Rattle.dp_semantics.proofs.Names.{is_clean, stage_of, memory_of, Follows, applied, effect_in, last, Epoch, is_checked, sum_by-cons, words_at, word_count}
+use Rattle.dp_semantics.proofs.Names.{get_or}
 use Rattle.std.proofs.Common.{is_none}
 use Rattle.std.specs.Option.{option_map, option_or}
 use Rattle.dp_base.specs.declared.Cause.{Cause}
 use Rattle.dp_base.specs.declared.End.{End}
-use Rattle.dp_semantics.specs.Cause.{Cause as Failure, by_load, load_cause, checked_load_cause, assumption_cause, words_cause, event_cause, first_cause, cause_or_end, cause_since}
-use Rattle.dp_semantics.specs.CauseWalk.{Watch, load_cause_in, checked_cause_in, words_cause_in, cause_in, counted_from, count_of, view_of, watched, watched_all, next_watch, first_watch}
+use Rattle.dp_semantics.specs.Cause.{Cause as Failure, by_load, load_cause, checked_load_cause, assumption_cause, words_cause, event_cause, first_cause}
+use Rattle.dp_semantics.specs.Cause.{cause_or_end, cause_since}
+use Rattle.dp_semantics.specs.CauseWalk.{Watch, load_cause_in, checked_cause_in, words_cause_in, cause_in, counted_from, count_of, view_of, watched}
+use Rattle.dp_semantics.specs.CauseWalk.{watched_all, next_watch, first_watch}
 use Rattle.dp_semantics.specs.FindsCauses.{watch_before}
 use Rattle.dp_semantics.specs.Recovery.{epoch}
 use Rattle.dp_semantics.specs.Reported.{reported}
@@ -20,8 +26,8 @@ use Rattle.dp_theorem.proofs.Central.{numbered_is, since_is, earlier_start, hist
 use Rattle.dp_theorem.proofs.Causes.{clean_without_cause}
 use Rattle.dp_theorem.proofs.Watching.{Watches, walk_is}
 use Rattle.dp_theorem.proofs.WatchInEpoch.{watch_at, watches_at}
-use Rattle.dp_view.specs.Viewed.{Viewed, noticed, after_event, after_all, settled, onward, anew}
-use Rattle.dp_view.specs.Following.{KeptBefore, Tells, ViewsTell, found_or_end}
+use Rattle.dp_view.specs.Viewed.{Viewed, noticed, after_event, after_all, settled, next_in_epoch, anew}
+use Rattle.dp_view.specs.Following.{KeptBefore, TellsClean, ViewsTell, found_or_end}
 
 -- ---- the first failure of several events, by what is watched
 
@@ -33,48 +39,58 @@ module _ (p : Program) (plan : Plan) where
 module _ {k : Epoch} (ok : Fit k) (i : ℕ) where
   open k use {program, plan, input, base}
 
-  counted_at : (event : Event) (a j : ℕ) (counts : List ℕ) → j < length counts → get_or (counted_from program plan event a counts) j 0 ≡ words_at program plan (a + j) event + get_or counts j 0
+  counted_at : (event : Event) (a j : ℕ) (counts : List ℕ) → j < length counts → get_or (counted_from program plan event a counts) j 0 ≡ words_at program plan
+      (a + j) event + get_or counts j 0
   counted_at event a j [] h = absurd (omega (arith, h))
   counted_at event a zero (n ∷ rest) h = let e : a + 0 ≡ a = omega arith in ap (λ (m : ℕ). words_at program plan m event + n) (sym e)
   counted_at event a (suc j) (n ∷ rest) h =
       let e : suc a + j ≡ a + suc j = omega arith in
       counted_at event (suc a) j rest (omega (arith, h)) ∙ ap (λ (m : ℕ). words_at program plan m event + get_or rest j 0) e
 
-  count_counted : (event : Event) (s : ℕ) (counts : List ℕ) → 0 < s → s < suc (length counts) → count_of (counted_from program plan event 1 counts) s ≡ words_at program plan s event + count_of counts s
+  count_counted : (event : Event) (s : ℕ) (counts : List ℕ) → 0 < s → s < suc (length counts) → count_of (counted_from program plan event 1 counts) s ≡ words_at
+      program plan s event + count_of counts s
   count_counted event zero counts real h = absurd (omega (arith, real))
   count_counted event (suc s) counts real h =
       let e : 1 + s ≡ suc s = omega arith in
       counted_at event 1 s counts (omega (arith, h)) ∙ ap (λ (m : ℕ). words_at program plan m event + get_or counts s 0) e
 
-  loads_same : (earlier : List Past) (s site : ℕ) (view : List ℤ) → Sees k s i earlier view → s ≡ stage_of program plan site → (loads : List _) → load_cause program plan base i earlier site loads ≡ load_cause_in view site loads
+  loads_same : (earlier : List Past) (s site : ℕ) (view : List ℤ) → Sees k s i earlier view → s ≡ stage_of program plan site → (loads : List _) →
+      load_cause program plan base i earlier site loads ≡ load_cause_in view site loads
   loads_same earlier s site view sees e [] = refl
   loads_same earlier s site view sees e (l ∷ rest) =
-      let same : seen program plan base (stage_of program plan site) i earlier l.cell ≡ get_or view l.cell (pos 0) = ap (λ (t : ℕ). seen program plan base t i earlier l.cell) (sym e) ∙ sym (sees l.cell) in
+      let same : seen program plan base (stage_of program plan site) i earlier l.cell ≡ get_or view l.cell (pos 0) = ap
+      (λ (t : ℕ). seen program plan base t i earlier l.cell) (sym e) ∙ sym (sees l.cell) in
       ap (λ (z : ℤ). option_or (by_load site l z) (load_cause program plan base i earlier site rest)) same
       ∙ ap (λ (o : Option Failure). option_or (by_load site l (get_or view l.cell (pos 0))) o) (loads_same earlier s site view sees e rest)
 
   -- an event fails as by what the stages see
-  cause_same : (earlier : List Past) (done : List Event) (w : Watch) (event : Event) → Watches ok i earlier done w → 0 < stage_of program plan event.site → stage_of program plan event.site < last plan →
+  cause_same : (earlier : List Past) (done : List Event) (w : Watch) (event : Event) → Watches ok i earlier done w → 0 < stage_of program plan event.site →
+      stage_of program plan event.site < last plan →
       event_cause program plan base i earlier done event ≡ cause_in program plan w event
   cause_same earlier done w event b real early =
       let s = stage_of program plan event.site in
       let loads : checked_load_cause program plan base i earlier event ≡ checked_cause_in program plan (view_of w.views s) event =
-      ap (λ (o : Option Failure). if is_checked program plan event.site then o else None) (loads_same earlier s event.site (view_of w.views s) (b.sees s real early) refl event.loads) in
+      ap (λ (o : Option Failure). if is_checked program plan event.site then o else None) (loads_same earlier s event.site (view_of w.views s)
+      (b.sees s real early) refl event.loads) in
       let count : word_count program plan (event ∷ done) s ≡ count_of (watched program plan event w).counts s =
       sum_by-cons (words_at program plan s) event done ∙ ap (λ (n : ℕ). words_at program plan s event + n) (sym (b.counts s real early))
       ∙ sym (count_counted event s w.counts real (omega (arith, b.counts_are, early))) in
       ap (λ (o : Option Failure). option_or o (option_or (assumption_cause program plan event) (words_cause program plan done event))) loads
-      ∙ ap (λ (n : ℕ). option_or (checked_cause_in program plan (view_of w.views s) event) (option_or (assumption_cause program plan event) (words_cause_in program plan n event))) count
+      ∙ ap (λ (n : ℕ). option_or (checked_cause_in program plan (view_of w.views s) event) (option_or (assumption_cause program plan event)
+      (words_cause_in program plan n event))) count
 
   -- The first of the source's events that fails is found by what is watched.
-  pub found_same : {to_do : List Stmt} {earlier : List Past} {cells : List ℤ} {events : List Event} {after : List Stmt} {then_cells : List ℤ} (done : List Event) (w : Watch) →
-      Stands k i to_do earlier cells → Goes program input to_do cells events after then_cells → Watches ok i earlier done w → first_cause program plan base i earlier done events ≡ found_in program plan w events
+  pub found_same : {to_do : List Stmt} {earlier : List Past} {cells : List ℤ} {events : List Event} {after : List Stmt} {then_cells : List ℤ}
+      (done : List Event) (w : Watch) →
+      Stands k i to_do earlier cells → Goes program input to_do cells events after then_cells → Watches ok i earlier done w →
+      first_cause program plan base i earlier done events ≡ found_in program plan w events
   found_same done w at stays b = refl
   found_same {earlier = earlier} done w at (goes {x = x} {rest = rest} {v = v} {events = more} e path) b =
       let event : Event = Rattle.dp_theorem.proofs.Source.event_of (out-Stmt x) v in
       let site = own_site ok at in
       let walked = walk_is ok i 0 done w at (goes e stays) b in
-      ap (λ (o : Option Failure). option_or o (first_cause program plan base i (record { iteration = i; event = event } ∷ earlier) (event ∷ done) more)) (cause_same earlier done w event b site.staged site.early)
+      ap (λ (o : Option Failure). option_or o (first_cause program plan base i (record { iteration = i; event = event } ∷ earlier) (event ∷ done) more))
+      (cause_same earlier done w event b site.staged site.early)
       ∙ ap (option_or (cause_in program plan w event)) (found_same (event ∷ done) (watched program plan event w) (stands_next ok at v e) path walked.watches)
 
 -- ---- what is kept behind several events
@@ -83,11 +99,13 @@ noticed_source : (o : Option Cause) (event : Event) (v : Viewed) → (noticed o 
 noticed_source (Some cause) event v = refl
 noticed_source None event v = refl
 
-noticed_still : {X : Type 0} (f : Viewed → X) → ((v w : Viewed) → v.program ≡ w.program → v.plan ≡ w.plan → v.before ≡ w.before → f v ≡ f w) → (o : Option Cause) (event : Event) (v : Viewed) → f (noticed o event v) ≡ f v
+noticed_still : {X : Type 0} (f : Viewed → X) → ((v w : Viewed) → v.program ≡ w.program → v.plan ≡ w.plan → v.before ≡ w.before → f v ≡ f w) →
+    (o : Option Cause) (event : Event) (v : Viewed) → f (noticed o event v) ≡ f v
 noticed_still f same (Some cause) event v = same _ v refl refl refl
 noticed_still f same None event v = same _ v refl refl refl
 
-pub all_still : {X : Type 0} (f : Viewed → X) → ((v w : Viewed) → v.program ≡ w.program → v.plan ≡ w.plan → v.before ≡ w.before → f v ≡ f w) → (events : List Event) (v : Viewed) → f (after_all events v) ≡ f v
+pub all_still : {X : Type 0} (f : Viewed → X) → ((v w : Viewed) → v.program ≡ w.program → v.plan ≡ w.plan → v.before ≡ w.before → f v ≡ f w) →
+    (events : List Event) (v : Viewed) → f (after_all events v) ≡ f v
 all_still f same [] v = refl
 all_still f same (event ∷ rest) v = all_still f same rest (after_event event v) ∙ noticed_still f same v.found event v
 
@@ -111,15 +129,18 @@ all_found (event ∷ rest) v e = by (cause_in v.program v.plan v.watch event) re
     next : after_event event v ≡ noticed None event v
     next = ap (λ (o : Option Cause). noticed o event v) e
 
-    by : (o : Option Failure) → cause_in v.program v.plan v.watch event ≡ o → ((noticed None event v).found ≡ None → Found rest (noticed None event v)) → Found (event ∷ rest) v
+    by : (o : Option Failure) → cause_in v.program v.plan v.watch event ≡ o → ((noticed None event v).found ≡ None → Found rest (noticed None event v)) →
+        Found (event ∷ rest) v
     by (Some cause) q go = record {
       found = ap (λ (w : Viewed). (after_all rest w).found) next ∙ found_stays (reported cause) rest (noticed None event v) (ap (option_map reported) q)
           ∙ sym (ap (λ (o : Option Failure). option_map reported (option_or o (found_in v.program v.plan (watched v.program v.plan event v.watch) rest))) q);
-      watch = λ none. let clash : Some cause ≡ None = sym (ap (λ (o : Option Failure). option_or o (found_in v.program v.plan (watched v.program v.plan event v.watch) rest)) q) ∙ none in absurd (cc clash);
+      watch = λ none. let clash : Some cause ≡ None = sym
+          (ap (λ (o : Option Failure). option_or o (found_in v.program v.plan (watched v.program v.plan event v.watch) rest)) q) ∙ none in absurd (cc clash);
     }
     by None q go =
         let later = go (ap (option_map reported) q) in
-        let skip : found_in v.program v.plan v.watch (event ∷ rest) ≡ found_in v.program v.plan (watched v.program v.plan event v.watch) rest = ap (λ (o : Option Failure). option_or o (found_in v.program v.plan (watched v.program v.plan event v.watch) rest)) q in
+        let skip : found_in v.program v.plan v.watch (event ∷ rest) ≡ found_in v.program v.plan (watched v.program v.plan event v.watch) rest = ap
+        (λ (o : Option Failure). option_or o (found_in v.program v.plan (watched v.program v.plan event v.watch) rest)) q in
         record {
           found = ap (λ (w : Viewed). (after_all rest w).found) next ∙ later.found ∙ sym (ap (option_map reported) skip);
           watch = λ none. ap (λ (w : Viewed). (after_all rest w).watch) next ∙ later.watch (sym skip ∙ none);
@@ -147,13 +168,16 @@ module _ {p : Program} {plan : Plan} (a : Accepted p plan) (input : List ℤ) (f
   abbrev r : ℕ
   r = plan.region
 
-  watch_is : (e first n : ℕ) (reached : start source plan.region e ≡ Some first) → watch_before p plan source e n ≡ watch_at (history a input fuel begins stands e first reached) n
+  watch_is : (e first n : ℕ) (reached : start source plan.region e ≡ Some first) →
+      watch_before p plan source e n ≡ watch_at (history a input fuel begins stands e first reached) n
   watch_is e first zero reached = refl
   watch_is e first (suc n) reached =
       ap (λ (w : Watch). next_watch p plan (watched_all p plan (iteration source plan.region (e + n)) w)) (watch_is e first n reached)
-      ∙ ap (λ (i : ℕ). next_watch p plan (watched_all p plan (iteration source plan.region i) (watch_at (history a input fuel begins stands e first reached) n))) (sym (numbered_is e n))
+      ∙ ap (λ (i : ℕ). next_watch p plan (watched_all p plan (iteration source plan.region i) (watch_at (history a input fuel begins stands e first reached)
+      n))) (sym (numbered_is e n))
 
-  module _ (e first : ℕ) (reached : start source plan.region e ≡ Some first) (n k : ℕ) (here : start source plan.region (numbered e n) ≡ Some k) (v : Viewed) (kept : KeptBefore p plan source e (numbered e n) v) where
+  module _ (e first : ℕ) (reached : start source plan.region e ≡ Some first) (n k : ℕ) (here : start source plan.region (numbered e n) ≡ Some k) (v : Viewed)
+      (kept : KeptBefore p plan source e (numbered e n) v) where
     abbrev i : ℕ
     i = numbered e n
 
@@ -227,14 +251,17 @@ module _ {p : Program} {plan : Plan} (a : Accepted p plan) (input : List ℤ) (f
       ended_clean : (b : Bool) → is_none w.found ≡ b → is_clean p plan source e i ≡ b
       ended_clean b q = clean_is ∙ ap (λ (t : Bool). t && is_none w.found) ended ∙ q
 
-      next_by : (b : Bool) → is_none w.found ≡ b → KeptBefore p plan source (if b then e else suc i) (suc i) (if b then onward (settled w) else anew (settled w))
+      next_by : (b : Bool) → is_none w.found ≡ b → KeptBefore p plan source (if b then e else suc i) (suc i) (if b then next_in_epoch (settled w)
+          else anew (settled w))
       next_by true q = record {
         program = program_is;
         plan_is = plan_is;
         watch =
-            let none : found_in v.program v.plan v.watch events ≡ None = none_is (found_in v.program v.plan v.watch events) (sym (none_told (found_in v.program v.plan v.watch events)) ∙ ap is_none (sym told.found) ∙ q) in
+            let none : found_in v.program v.plan v.watch events ≡ None = none_is (found_in v.program v.plan v.watch events)
+            (sym (none_told (found_in v.program v.plan v.watch events)) ∙ ap is_none (sym told.found) ∙ q) in
             let step : suc i - e ≡ suc n = omega (arith, numbered_is e n) in
-            let behind : w.watch ≡ watched_all p plan events (watch_before p plan source e n) = told.watch none ∙ (λ j. watched_all (kept.program j) (kept.plan_is j) events ((kept.watch ∙ ap (watch_before p plan source e) place) j)) in
+            let behind : w.watch ≡ watched_all p plan events (watch_before p plan source e n) = told.watch none
+            ∙ (λ j. watched_all (kept.program j) (kept.plan_is j) events ((kept.watch ∙ ap (watch_before p plan source e) place) j)) in
             (λ j. next_watch (program_is j) (plan_is j) (behind j))
             ∙ ap (λ (m : ℕ). next_watch p plan (watched_all p plan (iteration source r m) (watch_before p plan source e n))) (numbered_is e n)
             ∙ ap (watch_before p plan source e) (sym step);
@@ -262,14 +289,22 @@ module _ {p : Program} {plan : Plan} (a : Accepted p plan) (input : List ℤ) (f
         clean = λ m low high. absurd (omega (arith, low, high));
       }
 
-    tells_there : Tells p plan source e i w
-    tells_there = record { clean = clean_is; cause = cause_is; source = source_is; before = before_is; next = λ ended going. next_by ended going (is_none w.found) refl }
+    tells_there : TellsClean p plan source e i w
+    tells_there = record {
+      clean = clean_is;
+      cause = cause_is;
+      source = source_is;
+      before = before_is;
+      next = λ ended going. next_by ended going (is_none w.found) refl;
+    }
 
-  pub tells : (e i k : ℕ) → start source plan.region i ≡ Some k → (v : Viewed) → KeptBefore p plan source e i v → Tells p plan source e i (after_all (iteration source plan.region i) v)
+  pub tells : (e i k : ℕ) → start source plan.region i ≡ Some k → (v : Viewed) → KeptBefore p plan source e i v →
+      TellsClean p plan source e i (after_all (iteration source plan.region i) v)
   tells e i k here v kept =
       let is : numbered e (i - e) ≡ i = omega (arith, numbered_is e (i - e), kept.since) in
       let first = earlier_start (starts source plan.region) i e k here kept.since in
-      subst (λ (j : ℕ). start source plan.region j ≡ Some k → KeptBefore p plan source e j v → Tells p plan source e j (after_all (iteration source plan.region j) v)) is
+      subst (λ (j : ℕ). start source plan.region j ≡ Some k → KeptBefore p plan source e j v →
+      TellsClean p plan source e j (after_all (iteration source plan.region j) v)) is
       (λ s kb. tells_there e first.0 first.1 (i - e) k s v kb) here kept
 
 pub views_tell : {p : Program} {plan : Plan} → Accepted p plan → ViewsTell p plan

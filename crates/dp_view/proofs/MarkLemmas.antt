@@ -1,5 +1,6 @@
 -- Flags that are taken back.
-use Rattle.dp_semantics.proofs.Names.{◌≡◌, inl, inr, refl, sym, ◌∙◌, arith, ℕ, Bool, false, List, [], ◌∷◌, length, get_or, slice_set, cases_eq, cases_lt, length-set, get_or_past, get_or-set_other, get_or-set_at}
+use Rattle.dp_semantics.proofs.Names.{◌≡◌, inl, inr, refl, sym, ◌∙◌, arith, ℕ, Bool, false, List, [], ◌∷◌, length, get_or, slice_set, cases_eq, cases_lt}
+use Rattle.dp_semantics.proofs.Names.{length-set, get_or_past, get_or-set_other, get_or-set_at}
 use Rattle.dp_plan.specs.Written.{has}
 use Rattle.dp_view.specs.Marked.{unset}
 use Rattle.dp_view.proofs.CellLemmas.{has_past}

@@ -18,7 +18,8 @@ effect_back (event.Decided value) = refl
 effect_back (event.Tried value) = refl
 
 -- what is told of an event is the event
-told_is : (source : List ℤ) (site : SiteId) (seen : Effect) (cells : List ℕ) (e : Event) → site ≡ record { 0 = e.site } → seen ≡ effect_seen e.effect → cells ≡ loaded_cells e.loads → e.loads ≡ map (load_from source) (loaded_cells e.loads) →
+told_is : (source : List ℤ) (site : SiteId) (seen : Effect) (cells : List ℕ) (e : Event) → site ≡ record { 0 = e.site } → seen ≡ effect_seen e.effect →
+    cells ≡ loaded_cells e.loads → e.loads ≡ map (load_from source) (loaded_cells e.loads) →
     event_told source site seen cells ≡ e
 told_is source site seen cells e at did from loads = λ i. record {
   site = (ap (λ (s : SiteId). s.0) at) i;
@@ -31,7 +32,8 @@ source_after (Some cause) e v = refl
 source_after None e v = refl
 
 -- One step brings what comes on.
-pub follows_step : (m new : MachineState) (until : ℕ) (v w : Viewed) (site : SiteId) (seen : Effect) (cells : List ℕ) → Watches site seen cells m new → m.steps < until → w ≡ after_event (event_told v.source site seen cells) v →
+pub follows_step : (m new : MachineState) (until : ℕ) (v w : Viewed) (site : SiteId) (seen : Effect) (cells : List ℕ) → Watches site seen cells m new →
+    m.steps < until → w ≡ after_event (event_told v.source site seen cells) v →
     (left later : List Event) → Comes m until v.source left later → (x : List Event) × Comes new until w.source x later × (after_all x w ≡ after_all left v)
 follows_step m new until v w site seen cells s less is [] later c = let at = c.steps in absurd (omega (arith, less, at))
 follows_step m new until v w site seen cells s less is (e ∷ rest) later c =
@@ -53,6 +55,7 @@ follows_step m new until v w site seen cells s less is (e ∷ rest) later c =
     )
 
 -- Where the run is over, nothing comes.
-pub nothing_comes : {A : Type 0} (m : MachineState) (until : ℕ) (cells : List ℤ) (left later : List Event) → (rest_of_run m).trace ≡ [] → m.steps < until → Comes m until cells left later → A
+pub nothing_comes : {A : Type 0} (m : MachineState) (until : ℕ) (cells : List ℤ) (left later : List Event) → (rest_of_run m).trace ≡ [] → m.steps < until →
+    Comes m until cells left later → A
 nothing_comes m until cells [] later none less c = let at = c.steps in absurd (omega (arith, less, at))
 nothing_comes m until cells (e ∷ rest) later none less c = let clash : [] ≡ e ∷ (rest ++ later) = sym none ∙ c.trace in absurd (cc clash)

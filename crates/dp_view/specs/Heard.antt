@@ -19,7 +19,7 @@ pub record Comes (m : MachineState) (until : ℕ) (cells : List ℤ) (events lat
   pub loads : LoadsFrom cells events
 
 -- they were made, and are kept
-pub record Went (m : MachineState) (until : ℕ) (before after : Viewed) (events later : List Event) : Type 0 where
+pub record WereMade (m : MachineState) (until : ℕ) (before after : Viewed) (events later : List Event) : Type 0 where
   pub trace : (rest_of_run m).trace ≡ later
   pub steps : m.steps ≡ until
   pub kept : after ≡ after_all events before

@@ -16,24 +16,24 @@ abbrev pub refreshed : List ℤ → List ℕ → List ℕ → List ℤ → List 
 refreshed from locals others to = copied from others (copied from locals to)
 
 -- these cells read 0
-abbrev pub clear_cells : List ℕ → List ℤ → List ℤ
-clear_cells [] cells = cells
-clear_cells (cell ∷ rest) cells = clear_cells rest (slice_set cells cell (pos 0))
+abbrev pub cleared_cells : List ℕ → List ℤ → List ℤ
+cleared_cells [] cells = cells
+cleared_cells (cell ∷ rest) cells = cleared_cells rest (slice_set cells cell (pos 0))
 
 -- one cell more, where it is a body local's
-abbrev pub with_cell : Bool → ℕ → List ℕ → List ℕ
-with_cell true cell rest = cell ∷ rest
-with_cell false cell rest = rest
+abbrev pub with_local_number : Bool → ℕ → List ℕ → List ℕ
+with_local_number true cell rest = cell ∷ rest
+with_local_number false cell rest = rest
 
 -- the cells of region r's body locals
-abbrev pub local_cells : ℕ → List VarInfo → List ℕ
-local_cells r [] = []
-local_cells r (x ∷ xs) = with_cell (is_local_of r x.scope) x.first.0 (local_cells r xs)
+abbrev pub local_numbers : ℕ → List VarInfo → List ℕ
+local_numbers r [] = []
+local_numbers r (x ∷ xs) = with_local_number (is_local_of r x.scope) x.first.0 (local_numbers r xs)
 
 -- an effect at a site of this stage, seen by the stages from s on that aren't before it
-abbrev pub shown_by : ℕ → Effect → ℕ → List (List ℤ) → List (List ℤ)
-shown_by stage effect s [] = []
-shown_by stage effect s (view ∷ rest) = (if nat_le stage s then stored effect view else view) ∷ shown_by stage effect (suc s) rest
+abbrev pub shown_to_stages : ℕ → Effect → ℕ → List (List ℤ) → List (List ℤ)
+shown_to_stages stage effect s [] = []
+shown_to_stages stage effect s (view ∷ rest) = (if nat_le stage s then stored effect view else view) ∷ shown_to_stages stage effect (suc s) rest
 
 -- so many words more of a stage
 abbrev pub count_more : ℕ → ℕ → List ℕ → List ℕ

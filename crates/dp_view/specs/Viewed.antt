@@ -79,8 +79,8 @@ abbrev pub settled : Viewed → Viewed
 settled v = record v { source = clear_locals v.plan.region v.program.vars v.source }
 
 -- the next iteration begins in the same epoch
-abbrev pub onward : Viewed → Viewed
-onward v = record v { watch = next_watch v.program v.plan v.watch; before = v.source; found = None }
+abbrev pub next_in_epoch : Viewed → Viewed
+next_in_epoch v = record v { watch = next_watch v.program v.plan v.watch; before = v.source; found = None }
 
 -- .. or a new epoch begins with it
 abbrev pub anew : Viewed → Viewed

@@ -23,7 +23,8 @@ pub(crate) fn put_changes(
     out: &mut Row<usize>,
 ) -> Result<(), NoMemory>
     requires { IsNonDecreasing cells.now }
-    ensures { ((c : ℕ) → c < length after.now → definition.differs before.now after.now c ≡ true → has c cells.now ≡ true) → OnOk result (out.new ≡ filter (definition.differs before.now after.now) (numbers_from 0 (length after.now))) }
+    ensures { ((c : ℕ) → c < length after.now → definition.differs before.now after.now c ≡ true → has c cells.now ≡ true) →
+        OnOk result (out.new ≡ filter (definition.differs before.now after.now) (numbers_from 0 (length after.now))) }
 {
     out.clear();
     let mut next = 0;

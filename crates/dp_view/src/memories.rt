@@ -45,7 +45,7 @@ pub(crate) fn make(cells: &mut Row<i64>, effect: Effect)
 
 /// These cells read 0 afterwards.
 pub(crate) fn clear(cells: &[usize], memory: &mut Row<i64>)
-    ensures { memory.new ≡ definition.clear_cells cells.now memory.old }
+    ensures { memory.new ≡ definition.cleared_cells cells.now memory.old }
 {
     for cell in cells {
         put(memory, *cell, 0);
@@ -75,7 +75,7 @@ pub(crate) fn local_cells(
     region: u32,
     vars: &[VarInfo],
 ) -> Result<Row<usize>, NoMemory>
-    ensures { IfOk result (λ cells. cells ≡ definition.local_cells region vars.now) }
+    ensures { IfOk result (λ cells. cells ≡ definition.local_numbers region vars.now) }
 {
     let mut cells = Row::new(alloc);
     for info in vars {

@@ -11,7 +11,7 @@ use dp_plan::{Plan, StageKind};
 
 /// An effect at a site of a stage is seen by it and the later ones.
 pub(crate) fn show(views: &mut [Row<i64>], stage: u32, effect: Effect)
-    ensures { views.new ≡ definition.shown_by stage (effect_of effect) 1 views.old }
+    ensures { views.new ≡ definition.shown_to_stages stage (effect_of effect) 1 views.old }
 {
     let mut place = 0;
     while place < views.len() {
@@ -24,7 +24,7 @@ pub(crate) fn show(views: &mut [Row<i64>], stage: u32, effect: Effect)
 
 /// These cells read 0 in each memory.
 fn clear_all(views: &mut [Row<i64>], cells: &[usize])
-    ensures { views.new ≡ map (definition.clear_cells cells.now) views.old }
+    ensures { views.new ≡ map (definition.cleared_cells cells.now) views.old }
 {
     let mut place = 0;
     while place < views.len() {
@@ -82,7 +82,8 @@ fn share_all(views: &mut [Row<i64>], plan: &Plan, cells: &[usize])
 /// The body locals read 0 in each memory, and a replicated stage sees what the stage before it does, where these cells are all in
 /// which their memories differ then.
 pub(crate) fn next_all(views: &mut [Row<i64>], plan: &Plan, locals: &[usize], cells: &[usize])
-    ensures { definition.Neighbours plan.now cells.now (map (definition.clear_cells locals.now) views.old) → views.new ≡ views_from plan.now 1 [] (map (definition.clear_cells locals.now) views.old) }
+    ensures { definition.Neighbours plan.now cells.now (map (definition.cleared_cells locals.now) views.old) →
+        views.new ≡ views_from plan.now 1 [] (map (definition.cleared_cells locals.now) views.old) }
 {
     clear_all(views, locals);
     share_all(views, plan, cells);

@@ -64,7 +64,14 @@ impl<'p> Model for Views<'p> {
 
     ghost coded = { Prim.hlevel (codes, expr.the_row.coded, stmt.the_row.coded) };
 
-    ghost view = { λ v. record { program = v.program.now; plan = v.plan.now; watch = record { views = v.views; counts = v.counts }; source = v.source; before = v.before; found = v.found } };
+    ghost view = { λ v. record {
+      program = v.program.now;
+      plan = v.plan.now;
+      watch = record { views = v.views; counts = v.counts };
+      source = v.source;
+      before = v.before;
+      found = v.found;
+    } };
 
     ghost invariant = { λ v. IsKept v.program.now v.plan.now v.views v.counts v.source v.before v.locals v.stored v.since };
 }
@@ -171,7 +178,8 @@ impl<'p> Views<'p> {
         effect: Effect,
         cells: &[usize],
     ) -> Result<Option<Cause>, NoMemory>
-        ensures { IfOk result (λ found. found ≡ option_map reported (definition.fails_at self.now stage (definition.event_told self.now.source site effect cells.now))) }
+        ensures { IfOk result
+            (λ found. found ≡ option_map reported (definition.fails_at self.now stage (definition.event_told self.now.source site effect cells.now))) }
     {
         if self.plan.checked(self.program, site) {
             let view = view(self.views.as_slice(), stage);

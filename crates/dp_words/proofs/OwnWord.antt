@@ -9,7 +9,12 @@ use Rattle.dp_words.specs.steps.Verbs.{verb_name}
 -- the verb with this word
 verb_with : Text → Option Verb
 verb_with text =
-    if bytes_eq text (codes "run") then Some verb.Run else (if bytes_eq text (codes "plan") then Some verb.Plan else (if bytes_eq text (codes "check") then Some verb.Check else (if bytes_eq text (codes "profile") then Some verb.Profile else (if bytes_eq text (codes "gen") then Some verb.Gen else (if bytes_eq text (codes "log") then Some verb.Log else (if bytes_eq text (codes "audit") then Some verb.Audit else (if bytes_eq text (codes "save") then Some verb.Save else (if bytes_eq text (codes "resume") then Some verb.Resume else (if bytes_eq text (codes "batch") then Some verb.Batch else (if bytes_eq text (codes "explain") then Some verb.Explain else (if bytes_eq text (codes "tree") then Some verb.Tree else None)))))))))))
+    if bytes_eq text (codes "run") then Some verb.Run else (if bytes_eq text (codes "plan") then Some verb.Plan
+    else (if bytes_eq text (codes "check") then Some verb.Check else (if bytes_eq text (codes "profile") then Some verb.Profile
+    else (if bytes_eq text (codes "gen") then Some verb.Gen else (if bytes_eq text (codes "log") then Some verb.Log
+    else (if bytes_eq text (codes "audit") then Some verb.Audit else (if bytes_eq text (codes "save") then Some verb.Save
+    else (if bytes_eq text (codes "resume") then Some verb.Resume else (if bytes_eq text (codes "batch") then Some verb.Batch
+    else (if bytes_eq text (codes "explain") then Some verb.Explain else (if bytes_eq text (codes "tree") then Some verb.Tree else None)))))))))))
 
 with_name : (v : Verb) → verb_with (verb_name v) ≡ Some v
 unfolding verb_with

@@ -1,5 +1,6 @@
 -- A value that a parse took passed the parser of its argument.
-use Rattle.std.proofs.Common.{◌≡◌, ◌∙◌, ◌<◌, ap, refl, sym, subst, arith, ℕ, zero, suc, Bool, true, false, List, [], ◌∷◌, length, map, Option, Some, None, inl, inr, codes}
+use Rattle.std.proofs.Common.{◌≡◌, ◌∙◌, ◌<◌, ap, refl, sym, subst, arith, ℕ, zero, suc, Bool, true, false, List, [], ◌∷◌, length, map, Option, Some, None, inl}
+use Rattle.std.proofs.Common.{inr, codes}
 use Rattle.std.specs.Prelude.{option_map, slice_get}
 use Rattle.std.specs.List.{All, slice_index_or, list_all}
 use Rattle.std.specs.Str.{bytes_eq}
@@ -43,7 +44,8 @@ none_in (x ∷ xs) e =
 simple_groups : (a : Arg) → is_simple_arg a ≡ true → a.groups.items ≡ []
 simple_groups a e = none_in a.groups.items (both _ _ (both _ _ (both _ _ e).1).1).0
 
-no_group_args : (xs : List Arg) → list_all (λ r. r.is_simple) (map rule_of xs) ≡ true → (k : ℕ) (d : Arg) → k < length xs → (slice_index_or xs k d).groups.items ≡ []
+no_group_args : (xs : List Arg) → list_all (λ r. r.is_simple) (map rule_of xs) ≡ true → (k : ℕ) (d : Arg) → k < length xs →
+    (slice_index_or xs k d).groups.items ≡ []
 no_group_args [] e k d lt = absurd (omega (arith, lt))
 no_group_args (x ∷ xs) e zero d lt = simple_groups x (both _ _ e).0
 no_group_args (x ∷ xs) e (suc k) d lt = no_group_args xs (both _ _ e).1 k d (omega (arith, lt))
@@ -55,7 +57,8 @@ no_globals : (c : Command) → (app_of c).top.is_plain ≡ true → (out-Command
 no_globals c e = not-true (out-Command c).has_globals (both _ _ (both _ _ (both _ _ e).1).1).0
 
 -- what the argument of the built command takes, the caller's argument takes
-accepts_same : (a x : Arg) (q : ValueParser) (t : Text) → SameRules a x → (a.value_parser ≡ Some q) × (a.ignore_case ≡ false) → Accepts x.ignore_case (parser_of x) t → Accepts false q t
+accepts_same : (a x : Arg) (q : ValueParser) (t : Text) → SameRules a x → (a.value_parser ≡ Some q) × (a.ignore_case ≡ false) →
+    Accepts x.ignore_case (parser_of x) t → Accepts false q t
 accepts_same a x q t s given h =
     let is_q : parser_of x ≡ q = ap parser_of_value (s.parser q given.0) in
     let as_q : Accepts x.ignore_case q t = subst (λ (w : ValueParser). Accepts x.ignore_case w t) is_q h in
@@ -78,13 +81,15 @@ passes_given old m p id q rules help version t pass =
           absurd (elim flag [ inl h ↦ help (sym x_id ∙ h) | inr h ↦ version (sym x_id ∙ h) ])
     ]
 
-first_has : (P : Text → Type 0) (vs : List (Bor Text)) (t : Text) → ((k : ℕ) (d : Bor Text) → k < length vs → P (slice_index_or vs k d).now) → option_map (λ s. s.now) (slice_get vs 0) ≡ Some t → P t
+first_has : (P : Text → Type 0) (vs : List (Bor Text)) (t : Text) → ((k : ℕ) (d : Bor Text) → k < length vs → P (slice_index_or vs k d).now) →
+    option_map (λ s. s.now) (slice_get vs 0) ≡ Some t → P t
 first_has P [] t all e = absurd (cc e)
 first_has P (v ∷ vs) t all e =
     let same : v.now ≡ t = cc e in
     subst P same (all 0 v (omega arith))
 
-entry_values : (built : Command) (e : Entry) (x : MatchedArg) (id t : Text) → groups_of built ≡ [] → (id ≡ [] → ⊥) → e.1 ≡ x → e.0.now ≡ id → EntryPasses built e
+entry_values : (built : Command) (e : Entry) (x : MatchedArg) (id t : Text) → groups_of built ≡ [] → (id ≡ [] → ⊥) → e.1 ≡ x →
+    e.0.now ≡ id → EntryPasses built e
     → option_map (λ s. s.now) (slice_get x.vals.items 0) ≡ Some t → PassesArg built id t
 entry_values built e x id t without named same key passes first = elim passes.0 [
   | inl g ↦ elim (passes.3 g) [
@@ -94,12 +99,14 @@ entry_values built e x id t without named same key passes first = elim passes.0 
         absurd (omega (arith, bad))
   ]
   | inr vals ↦
-      let here : All (λ v. PassesArg built id v.now) x.vals.items = subst (λ (w : Text). All (λ v. PassesArg built w v.now) x.vals.items) key (rw same at vals) in
+      let here : All (λ v. PassesArg built id v.now) x.vals.items = subst (λ (w : Text). All (λ v. PassesArg built w v.now) x.vals.items) key
+      (rw same at vals) in
       first_has (PassesArg built id) x.vals.items t here first
 ]
 
 -- the first value of an id passed the parser of an argument with it
-first_passes : (built : Command) (f : Found) (id t : Text) → groups_of built ≡ [] → (id ≡ [] → ⊥) → ValuesPass built f → first_value f id ≡ Some t → PassesArg built id t
+first_passes : (built : Command) (f : Found) (id t : Text) → groups_of built ≡ [] → (id ≡ [] → ⊥) → ValuesPass built f → first_value f id ≡ Some t →
+    PassesArg built id t
 first_passes built f id t without named values value = go (matched_of f id) refl value
   where
     go : (o : Option MatchedArg) → matched_of f id ≡ o → first_value f id ≡ Some t → PassesArg built id t
@@ -111,7 +118,8 @@ first_passes built f id t without named values value = go (matched_of f id) refl
         entry_values built got.0 x id t without named got.1 ((bytes_eq-Decides got.0.0.now id).0 got.2) got.3 (rw e at h)
 
 -- the value of an argument with a parser, of a command that is simple
-pub value_passes : (old : Command) (m : ArgMatches) → IsParsedFrom old m → (app_of old).top.is_plain ≡ true → list_all (λ r. r.is_simple) (app_of old).top.rules ≡ true
+pub value_passes : (old : Command) (m : ArgMatches) → IsParsedFrom old m → (app_of old).top.is_plain ≡ true →
+    list_all (λ r. r.is_simple) (app_of old).top.rules ≡ true
     → (id : Text) (q : ValueParser) → Each (HasParser id q) (app_of old).top.rules → (id ≡ [] → ⊥) → (id ≡ codes "help" → ⊥) → (id ≡ codes "version" → ⊥)
     → (t : Text) → first_value (found_of m) id ≡ Some t → Accepts false q t
 value_passes old m p plain simple id q rules named help version t value =

@@ -1,5 +1,6 @@
 -- The numbers that a command finds are in their ranges.
-use Rattle.std.proofs.Common.{◌≡◌, ◌∙◌, ap, ap₂, refl, subst, ℕ, Bool, true, false, ◌==◌, ◌&&◌, not, if◌then◌else◌, List, [], ◌∷◌, Option, Some, None, IfSome, codes}
+use Rattle.std.proofs.Common.{◌≡◌, ◌∙◌, ap, ap₂, refl, subst, ℕ, Bool, true, false, ◌==◌, ◌&&◌, not, if◌then◌else◌, List, [], ◌∷◌, Option, Some, None, IfSome}
+use Rattle.std.proofs.Common.{codes}
 use Rattle.std.proofs.lemmas.Bool.{eqb-true, not-true}
 use Rattle.std.specs.List.{list_all}
 use Rattle.std.specs.Option.{option_map_or}
@@ -12,7 +13,7 @@ use Rattle.clap.specs.declared.builder.value_parser.ValueParser.TheVariants as p
 use Rattle.clap.specs.declared.parser.matches.ArgMatches.{ArgMatches}
 use Rattle.dp_words.proofs.PassLemmas.{Each, HasParser, value_passes}
 use Rattle.dp_words.proofs.VerbLemmas.{apart}
-use Rattle.dp_words.specs.Commands.{IsTaken}
+use Rattle.dp_words.specs.Commands.{CommandTakes}
 use Rattle.dp_words.specs.steps.Numbers.{KeepsRange, TakesNumbers, is_range, keeps_range}
 use Rattle.dp_words.specs.steps.Reading.{Finds, HoldsNumbers, values_of}
 
@@ -33,7 +34,8 @@ one_in_range id low high rule e same =
     let parts = both (option_map_or (is_range low high) rule.parser false) (not rule.ignore_case) here in
     (parser_is low high rule.parser parts.0, not-true rule.ignore_case parts.1)
 
-each_in_range : (id : Text) (low high : ℕ) (rules : List Rule) → list_all (keeps_range id low high) rules ≡ true → Each (HasParser id (parser.Unsigned low high)) rules
+each_in_range : (id : Text) (low high : ℕ) (rules : List Rule) → list_all (keeps_range id low high) rules ≡ true →
+    Each (HasParser id (parser.Unsigned low high)) rules
 each_in_range id low high [] e = tt
 each_in_range id low high (rule ∷ rules) e =
     let parts = both (keeps_range id low high rule) (list_all (keeps_range id low high) rules) e in
@@ -47,10 +49,12 @@ module _ (command : Command) (m : ArgMatches) (p : IsParsedFrom command m) (take
   simple_rules : ((app_of command).top.is_plain ≡ true) × (list_all (λ r. r.is_simple) (app_of command).top.rules ≡ true)
   simple_rules = both _ _ (both _ _ (both _ _ (both _ _ takes.simple).0).0).0
 
-  in_range : (id : Text) (low high : ℕ) → KeepsRange (app_of command) id low high → bytes_eq id [] ≡ false → bytes_eq id (codes "help") ≡ false → bytes_eq id (codes "version") ≡ false → IfSome (values_of m id) (IsUnsignedIn low high)
+  in_range : (id : Text) (low high : ℕ) → KeepsRange (app_of command) id low high → bytes_eq id [] ≡ false → bytes_eq id (codes "help") ≡ false →
+      bytes_eq id (codes "version") ≡ false → IfSome (values_of m id) (IsUnsignedIn low high)
   in_range id low high keeps named help version =
       each_value (IsUnsignedIn low high) (values_of m id)
-      (value_passes command m p simple_rules.0 simple_rules.1 id (parser.Unsigned low high) (each_in_range id low high (app_of command).top.rules keeps) (apart id [] named) (apart id (codes "help") help) (apart id (codes "version") version))
+      (value_passes command m p simple_rules.0 simple_rules.1 id (parser.Unsigned low high) (each_in_range id low high (app_of command).top.rules keeps)
+      (apart id [] named) (apart id (codes "help") help) (apart id (codes "version") version))
 
   pub numbers_hold : HoldsNumbers (values_of m)
   numbers_hold = record {
@@ -65,5 +69,6 @@ module _ (command : Command) (m : ArgMatches) (p : IsParsedFrom command m) (take
     after = in_range (codes "after") 0 1000000000 takes.after refl refl refl;
   }
 
-  pub finds : (words : List Text) → IsTaken (app_of command) words → rows_of (found_of m) ≡ matches_of (app_of command) words → Finds (app_of command) words (values_of m)
+  pub finds : (words : List Text) → CommandTakes (app_of command) words → rows_of (found_of m) ≡ matches_of (app_of command) words →
+      Finds (app_of command) words (values_of m)
   finds words taken rows = record { taken = taken; same = λ id. first_value-rows (found_of m) id ∙ ap (first_of id) rows; numbers = numbers_hold }

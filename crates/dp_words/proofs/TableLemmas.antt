@@ -23,18 +23,23 @@ rules_alone : (v : Verb) → with_own (verb_app (verb_name v)) (app_by v).top.ru
 rules_alone verb.Run = refl
 rules_alone v = refl
 
-line_app : (line : Line) (names options further : List Rule) (app more made : App) → IsTrueLine line → app ≡ with_rules (verb_app line.word.now) names → more ≡ with_rules app options → made ≡ with_rules more further → names ++ options ++ further ≡ rules_in line → made ≡ app_by line.verb
+line_app : (line : Line) (names options further : List Rule) (app more made : App) → IsTrueLine line → app ≡ with_rules (verb_app line.word.now) names →
+    more ≡ with_rules app options → made ≡ with_rules more further → names ++ options ++ further ≡ rules_in line → made ≡ app_by line.verb
 line_app line names options further app more made true_line a b c rules =
     c ∙ ap (λ (x : App). with_rules x further) (b ∙ ap (λ (x : App). with_rules x options) a)
     ∙ rules_behind (with_rules (with_rules (verb_app line.word.now) names) options) further
-    ∙ ap (λ (x : App). with_own x further) (rules_behind (with_rules (verb_app line.word.now) names) options ∙ ap (λ (x : App). with_own x options) (rules_behind (verb_app line.word.now) names))
+    ∙ ap (λ (x : App). with_own x further) (rules_behind (with_rules (verb_app line.word.now) names) options
+    ∙ ap (λ (x : App). with_own x options) (rules_behind (verb_app line.word.now) names))
     ∙ ap (λ (rs : List Rule). with_own (verb_app line.word.now) rs) (rules ∙ true_line.rules)
     ∙ ap (λ (word : Text). with_own (verb_app word) (app_by line.verb).top.rules) true_line.named
     ∙ rules_alone line.verb
 
 -- .. that is made in three steps
-pub command_made : {E : Type 0} (line : Line) → IsTrueLine line → (first second third : Command) → app_of first ≡ verb_app line.word.now → app_of second ≡ with_rules (app_of first) (map rule_for line.names.now) → app_of third ≡ with_rules (app_of second) (map rule_for line.options.now) →
-    (r : Result Command E) → IfOk r (λ last. app_of last ≡ with_rules (app_of third) (map rule_for line.further.now)) → IfOk r (λ last. app_of last ≡ app_by line.verb)
+pub command_made : {E : Type 0} (line : Line) → IsTrueLine line → (first second third : Command) → app_of first ≡ verb_app line.word.now →
+    app_of second ≡ with_rules (app_of first) (map rule_for line.names.now) → app_of third ≡ with_rules (app_of second) (map rule_for line.options.now) →
+    (r : Result Command E) → IfOk r (λ last. app_of last ≡ with_rules (app_of third) (map rule_for line.further.now)) →
+    IfOk r (λ last. app_of last ≡ app_by line.verb)
 command_made line t first second third a b c (Ok last) d =
-    line_app line (map rule_for line.names.now) (map rule_for line.options.now) (map rule_for line.further.now) (app_of second) (app_of third) (app_of last) t (b ∙ ap (λ (x : App). with_rules x (map rule_for line.names.now)) a) c d refl
+    line_app line (map rule_for line.names.now) (map rule_for line.options.now) (map rule_for line.further.now) (app_of second) (app_of third) (app_of last) t
+    (b ∙ ap (λ (x : App). with_rules x (map rule_for line.names.now)) a) c d refl
 command_made line t first second third a b c (Err e) d = tt

@@ -3,8 +3,10 @@ use Rattle.std.proofs.Common.{◌≡◌, ◌∙◌, sym, false, true, List, [], 
 use Rattle.std.specs.Str.{bytes_eq}
 use Rattle.std.proofs.lemmas.Slice.Eq.{bytes_eq-Decides}
 use Rattle.clap.specs.Words.{App, Text}
-use Rattle.dp_words.specs.Commands.{audit_app, batch_app, check_app, explain_app, gen_app, log_app, plan_app, profile_app, resume_app, run_app, save_app, tree_app}
-use Rattle.dp_words.specs.Words.{Asked, Asks, AsksBy, Behind, Names, ToAudit, ToBatch, ToExplain, ToList, ToLog, ToMake, ToPlan, ToProfile, ToResume, ToRun, ToSave, ToTree}
+use Rattle.dp_words.specs.Commands.{audit_app, batch_app, check_app, explain_app, gen_app, log_app, plan_app, profile_app, resume_app, run_app, save_app}
+use Rattle.dp_words.specs.Commands.{tree_app}
+use Rattle.dp_words.specs.Words.{Asked, Asks, AsksBy, Behind, Names, ToAudit, ToBatch, ToExplain, ToList, ToLog, ToMake, ToPlan, ToProfile, ToResume, ToRun}
+use Rattle.dp_words.specs.Words.{ToSave, ToTree}
 use Rattle.dp_words.specs.Values.{Values}
 use Rattle.dp_words.specs.Run.{ShowsNamed, ShowsRun}
 use Rattle.dp_words.specs.Planning.{ShowsPlanning}
@@ -59,7 +61,8 @@ asks_verb words (ToResume run checkpoint) h = verb_is (codes "resume") resume_ap
 asks_verb words (ToBatch run list) h = verb_is (codes "batch") batch_app (ShowsNamed (codes "list")) h
 
 -- what is asked for is what the words behind the verb name, and the reverse
-same_names : {X : Type 0} {app : App} {Own : Values → X → Type 0} {words : List Text} {x : X} (asked : Asked) → ((value : Values) → Own value x → Shows value asked) → Names app Own words x → Names app Shows words asked
+same_names : {X : Type 0} {app : App} {Own : Values → X → Type 0} {words : List Text} {x : X} (asked : Asked) →
+    ((value : Values) → Own value x → Shows value asked) → Names app Own words x → Names app Shows words asked
 same_names asked weaker h = record { taken = h.taken; shows = weaker _ h.shows }
 
 pub asks_names : (words : List Text) (asked : Asked) → Asks words asked → NamesOf (behind words) asked
@@ -73,7 +76,8 @@ asks_names words (ToMake made) h = same_names (ToMake made) (λ value k. k) (nam
 asks_names words (ToLog run) h = same_names (ToLog run) (λ value k. k) (named_behind (codes "log") log_app ShowsRun h)
 asks_names words (ToAudit run log) h = same_names (ToAudit run log) (λ value k. k) (named_behind (codes "audit") audit_app (ShowsNamed (codes "log")) h)
 asks_names words (ToSave run place) h = same_names (ToSave run place) (λ value k. k) (named_behind (codes "save") save_app ShowsSaving h)
-asks_names words (ToResume run checkpoint) h = same_names (ToResume run checkpoint) (λ value k. k) (named_behind (codes "resume") resume_app (ShowsNamed (codes "checkpoint")) h)
+asks_names words (ToResume run checkpoint) h =
+    same_names (ToResume run checkpoint) (λ value k. k) (named_behind (codes "resume") resume_app (ShowsNamed (codes "checkpoint")) h)
 asks_names words (ToBatch run list) h = same_names (ToBatch run list) (λ value k. k) (named_behind (codes "batch") batch_app (ShowsNamed (codes "list")) h)
 
 pub asks : (words : List Text) (asked : Asked) → NamesOf words asked → Asks (verb_of asked ∷ words) asked

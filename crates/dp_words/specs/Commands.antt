@@ -7,15 +7,15 @@ use Rattle.dp_base.specs.declared.limits.TheConstants.{FUEL, INPUT_WORDS, LANE, 
 use Rattle.dp_words.specs.declared.task.TheConstants.{REGION}
 
 -- a name that has to be given, and one that may be
-abbrev pub name_of : Text → Rule
-name_of id = record (new_rule id) { action = Some Set; required = true }
+abbrev pub name_rule : Text → Rule
+name_rule id = record (new_rule id) { action = Some Set; required = true }
 
 abbrev pub further_name : Text → Rule
 further_name id = record (new_rule id) { action = Some Set }
 
 -- .. of a number in this range, that has to be given
 abbrev pub number_name : Text → ℕ → ℕ → Rule
-number_name id low high = record (name_of id) { parser = Some (parser.Unsigned low high) }
+number_name id low high = record (name_rule id) { parser = Some (parser.Unsigned low high) }
 
 -- an option with a file's name, an option with a number in this range, and one that stands alone
 abbrev pub file_option : Text → Rule
@@ -48,7 +48,8 @@ fuel_option = number_option (codes "fuel") 0 FUEL
 
 -- a command with the options of automatic plans
 abbrev pub with_plan_options : App → App
-with_plan_options app = with_rule (with_rule (with_rule (with_rule app (file_option (codes "profile"))) (number_option (codes "rate") 0 RATE)) (number_option (codes "stages") 1 STAGES)) workers_option
+with_plan_options app = with_rule (with_rule (with_rule (with_rule app (file_option (codes "profile"))) (number_option (codes "rate") 0 RATE))
+    (number_option (codes "stages") 1 STAGES)) workers_option
 
 -- .. and with those of a run, but for its fuel
 abbrev pub with_run_options : App → App
@@ -56,13 +57,13 @@ with_run_options app = with_rule (with_plan_options (with_rule app (file_option 
 
 -- a command that has to be given a program, one that may be given an input, and one that has to be given a further text
 abbrev pub of_program : Text → App
-of_program verb = with_rule (verb_app verb) (name_of (codes "program"))
+of_program verb = with_rule (verb_app verb) (name_rule (codes "program"))
 
 abbrev pub with_input : App → App
 with_input app = with_rule app (further_name (codes "input"))
 
 abbrev pub with_text : App → Text → App
-with_text app id = with_rule app (name_of id)
+with_text app id = with_rule app (name_rule id)
 
 abbrev pub run_app : App
 run_app = with_rule (with_rule (with_run_options (with_input (of_program (codes "run")))) fuel_option) (flag (codes "why"))
@@ -89,7 +90,8 @@ abbrev pub audit_app : App
 audit_app = with_rule (with_run_options (with_input (with_text (of_program (codes "audit")) (codes "log")))) fuel_option
 
 abbrev pub save_app : App
-save_app = with_rule (with_rule (with_rule (with_run_options (with_input (of_program (codes "save")))) fuel_option) (needed_number (codes "region") 1 REGION)) (needed_number (codes "after") 0 FUEL)
+save_app = with_rule (with_rule (with_rule (with_run_options (with_input (of_program (codes "save")))) fuel_option) (needed_number (codes "region") 1 REGION))
+    (needed_number (codes "after") 0 FUEL)
 
 abbrev pub resume_app : App
 resume_app = with_run_options (with_input (with_text (of_program (codes "resume")) (codes "checkpoint")))
@@ -98,12 +100,13 @@ abbrev pub batch_app : App
 batch_app = with_rule (with_run_options (with_text (of_program (codes "batch")) (codes "list"))) fuel_option
 
 abbrev pub gen_app : App
-gen_app = with_rule (with_rule (with_rule (with_rule (verb_app (codes "gen")) (number_name (codes "seed") 0 SEED)) (number_name (codes "size") 1 INPUT_WORDS)) workers_option) lane_option
+gen_app = with_rule (with_rule (with_rule (with_rule (verb_app (codes "gen")) (number_name (codes "seed") 0 SEED)) (number_name (codes "size") 1 INPUT_WORDS))
+    workers_option) lane_option
 
 -- the command takes the words
-abbrev pub IsTaken : App → List Text → Type 0
-IsTaken app words = fault_of app words ≡ []
+abbrev pub CommandTakes : App → List Text → Type 0
+CommandTakes app words = fault_of app words ≡ []
 
 -- the value that the words give to a name or an option of the command, if they do
-abbrev pub value_in : App → List Text → Text → Option Text
-value_in app words id = first_of id (matches_of app words)
+abbrev pub value_given : App → List Text → Text → Option Text
+value_given app words id = first_of id (matches_of app words)

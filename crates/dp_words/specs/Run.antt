@@ -16,7 +16,7 @@ pub data Source : Type 0 where
 
 -- a run: the names of its program and of its input, if it has one, where its plans come from, how least ones are made, the places of a lane,
 -- the fuel, and whether its text says why iterations were executed again
-pub record Run : Type 0 where
+pub record RunAsked : Type 0 where
   pub program : List ℕ
   pub input : Option (List ℕ)
   pub source : Source
@@ -32,7 +32,7 @@ source_of (Some plan) None = Some (Named plan)
 source_of (Some plan) (Some profile) = None
 
 -- the values are those of this run
-pub record ShowsRun (value : Values) (run : Run) : Type 0 where
+pub record ShowsRun (value : Values) (run : RunAsked) : Type 0 where
   pub program : value (codes "program") ≡ Some run.program
   pub input : value (codes "input") ≡ run.input
   pub source : source_of (value (codes "plan")) (value (codes "profile")) ≡ Some run.source
@@ -42,7 +42,7 @@ pub record ShowsRun (value : Values) (run : Run) : Type 0 where
   pub why : run.why ≡ is_set (value (codes "why"))
 
 -- the values are those of this run, and of a further text with this name, under this id
-pub record ShowsNamed (id : Text) (value : Values) (named : Run × List ℕ) : Type 0 where
+pub record ShowsNamed (id : Text) (value : Values) (named : RunAsked × List ℕ) : Type 0 where
   pub run : ShowsRun value named.0
   pub name : value id ≡ Some named.1
 
@@ -52,7 +52,7 @@ shown_source (source.Named name) = Named name.now
 shown_source (source.Least profile) = Least (option_map (λ name. name.now) profile)
 
 -- the run that one stands for
-abbrev pub shown : RunWords → Run
+abbrev pub shown : RunWords → RunAsked
 shown words = record {
   program = words.program.now;
   input = option_map (λ name. name.now) words.input;
@@ -64,7 +64,7 @@ shown words = record {
 }
 
 -- the numbers of a run are within their limits
-pub record RunWithin (run : Run) : Type 0 where
+pub record RunWithin (run : RunAsked) : Type 0 where
   pub options : OptionsWithin run.options
   pub some_place : 1 ≤ run.lane
   pub few_places : run.lane ≤ LANE

@@ -5,10 +5,10 @@ use Rattle.dp_base.specs.declared.limits.TheConstants.{FUEL}
 use Rattle.dp_words.specs.declared.task.TheConstants.{REGION}
 use Rattle.dp_words.specs.declared.task.Place.{Place}
 use Rattle.dp_words.specs.Values.{Values, number_in}
-use Rattle.dp_words.specs.Run.{Run, ShowsRun}
+use Rattle.dp_words.specs.Run.{RunAsked, ShowsRun}
 
 -- the values are those of this run, and of this place in it
-pub record ShowsSaving (value : Values) (saving : Run × Place) : Type 0 where
+pub record ShowsSaving (value : Values) (saving : RunAsked × Place) : Type 0 where
   pub run : ShowsRun value saving.0
   pub region : option_map number_in (value (codes "region")) ≡ Some saving.1.region
   pub after : option_map number_in (value (codes "after")) ≡ Some saving.1.after

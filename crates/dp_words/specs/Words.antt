@@ -5,9 +5,10 @@ use Rattle.dp_words.specs.declared.task.GenWords.{GenWords}
 use Rattle.dp_words.specs.declared.task.Place.{Place}
 use Rattle.dp_words.specs.declared.task.Task.{Task}
 use Rattle.dp_words.specs.declared.task.Task.TheVariants as task
-use Rattle.dp_words.specs.Commands.{IsTaken, audit_app, batch_app, check_app, explain_app, gen_app, log_app, plan_app, profile_app, resume_app, run_app, save_app, tree_app, value_in}
+use Rattle.dp_words.specs.Commands.{CommandTakes, audit_app, batch_app, check_app, explain_app, gen_app, log_app, plan_app, profile_app, resume_app, run_app}
+use Rattle.dp_words.specs.Commands.{save_app, tree_app, value_given}
 use Rattle.dp_words.specs.Values.{OptionsWithin, Values}
-use Rattle.dp_words.specs.Run.{Run, RunWithin, ShowsNamed, ShowsRun, shown}
+use Rattle.dp_words.specs.Run.{RunAsked, RunWithin, ShowsNamed, ShowsRun, shown}
 use Rattle.dp_words.specs.Planning.{Planning, ShowsPlanning, shown_planning}
 use Rattle.dp_words.specs.Sites.{ShowsSites}
 use Rattle.dp_words.specs.Profiling.{Profiling, ProfilingWithin, ShowsProfiling, shown_profiling}
@@ -16,28 +17,30 @@ use Rattle.dp_words.specs.Saving.{PlaceWithin, ShowsSaving}
 
 -- the command takes the words, and they give it the values of this
 pub record Names {X : Type 0} (app : App) (Shows : Values → X → Type 0) (words : List Text) (x : X) : Type 0 where
-  pub taken : IsTaken app words
-  pub shows : Shows (value_in app words) x
+  pub taken : CommandTakes app words
+  pub shows : Shows (value_given app words) x
 
 -- the words are this verb, and behind it those of its command
 pub data AsksBy {X : Type 0} (verb : Text) (app : App) (Shows : Values → X → Type 0) : List Text → X → Type 0 where
   Behind : (words : List Text) (x : X) → Names app Shows words x → AsksBy verb app Shows (verb ∷ words) x
 
--- What words may ask for: a run, least plans, what they rest on, the list of this program's sites, this program as a tree, a profile, or a run of the made program; the log of a run,
--- whether the log of this name is a run's, a run up to this place, a run from the checkpoint of this name on, or a run of each input that the list of this name has.
+-- What words may ask for: a run, least plans, what they rest on, the list of this program's sites, this program as a tree, a profile, or a run of the made
+-- program; the log of a run,
+-- whether the log of this name is a run's, a run up to this place, a run from the checkpoint of this name on, or a run of each input that the list of this name
+-- has.
 pub data Asked : Type 0 where
-  ToRun : Run → Asked
+  ToRun : RunAsked → Asked
   ToPlan : Planning → Asked
   ToExplain : Planning → Asked
   ToList : List ℕ → Asked
   ToTree : List ℕ → Asked
   ToProfile : Profiling → Asked
   ToMake : GenWords → Asked
-  ToLog : Run → Asked
-  ToAudit : Run → List ℕ → Asked
-  ToSave : Run → Place → Asked
-  ToResume : Run → List ℕ → Asked
-  ToBatch : Run → List ℕ → Asked
+  ToLog : RunAsked → Asked
+  ToAudit : RunAsked → List ℕ → Asked
+  ToSave : RunAsked → Place → Asked
+  ToResume : RunAsked → List ℕ → Asked
+  ToBatch : RunAsked → List ℕ → Asked
 
 -- the words ask for it
 abbrev pub Asks : List Text → Asked → Type 0
@@ -59,19 +62,19 @@ abbrev pub AsksNothing : List Text → Type 0
 AsksNothing words = (asked : Asked) → ¬ Asks words asked
 
 -- what a task asks for
-abbrev pub asked_in : Task → Asked
-asked_in (task.Run run) = ToRun (shown run)
-asked_in (task.Plan plan) = ToPlan (shown_planning plan)
-asked_in (task.Explain plan) = ToExplain (shown_planning plan)
-asked_in (task.Check program) = ToList program.now
-asked_in (task.Tree program) = ToTree program.now
-asked_in (task.Profile profile) = ToProfile (shown_profiling profile)
-asked_in (task.Gen made) = ToMake made
-asked_in (task.Log run) = ToLog (shown run)
-asked_in (task.Audit run log) = ToAudit (shown run) log.now
-asked_in (task.Save run place) = ToSave (shown run) place
-asked_in (task.Resume run checkpoint) = ToResume (shown run) checkpoint.now
-asked_in (task.Batch run list) = ToBatch (shown run) list.now
+abbrev pub asked_by : Task → Asked
+asked_by (task.Run run) = ToRun (shown run)
+asked_by (task.Plan plan) = ToPlan (shown_planning plan)
+asked_by (task.Explain plan) = ToExplain (shown_planning plan)
+asked_by (task.Check program) = ToList program.now
+asked_by (task.Tree program) = ToTree program.now
+asked_by (task.Profile profile) = ToProfile (shown_profiling profile)
+asked_by (task.Gen made) = ToMake made
+asked_by (task.Log run) = ToLog (shown run)
+asked_by (task.Audit run log) = ToAudit (shown run) log.now
+asked_by (task.Save run place) = ToSave (shown run) place
+asked_by (task.Resume run checkpoint) = ToResume (shown run) checkpoint.now
+asked_by (task.Batch run list) = ToBatch (shown run) list.now
 
 -- its numbers are within their limits
 abbrev pub IsWithin : Task → Type 0

@@ -82,7 +82,7 @@ pub fn arg_of<'w>(alloc: Global, argument: Argument) -> Arg<'w>
 }
 
 fn name_of<'w>(alloc: Global, id: &'w str) -> Arg<'w>
-    ensures rule { rule_of result ≡ spec.name_of id.entry.now }
+    ensures rule { rule_of result ≡ spec.name_rule id.entry.now }
     ensures local { result.global ≡ false }
 {
     further_name(alloc, id).required(true)

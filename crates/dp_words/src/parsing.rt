@@ -1,7 +1,7 @@
 //! The matches of a command on its words.
 ghost use Rattle.std.specs.Prelude.{map, string_bytes, IfOk, IfSome, IfNone};
 ghost use Rattle.clap.specs.Words.{app_of};
-ghost use Rattle.dp_words.specs.Commands.{IsTaken};
+ghost use Rattle.dp_words.specs.Commands.{CommandTakes};
 ghost use Rattle.dp_words.specs.steps.Numbers.{TakesNumbers};
 ghost use Rattle.dp_words.specs.steps.Reading.{Finds, values_of};
 
@@ -16,7 +16,7 @@ pub fn found<'w>(
 ) -> Result<Option<ArgMatches<'w>>, NoMemory>
     requires numbers { TakesNumbers (app_of command) }
     ensures some { IfOk result (λ found. IfSome found (λ matches. Finds (app_of command.entry) (map string_bytes words.entry.now) (values_of matches))) }
-    ensures none { IfOk result (λ found. IfNone found (¬ IsTaken (app_of command.entry) (map string_bytes words.entry.now))) }
+    ensures none { IfOk result (λ found. IfNone found (¬ CommandTakes (app_of command.entry) (map string_bytes words.entry.now))) }
 {
     match command.try_get_matches_from(words) {
         Ok(matches) => Ok(Some(matches)),

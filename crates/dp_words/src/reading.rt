@@ -2,7 +2,7 @@
 ghost use Rattle.std.specs.Prelude.{◌≡◌, Some, IfSome, IfNone, ℕ, List};
 ghost use Rattle.std.specs.Option.{option_map};
 ghost use Rattle.dp_words.specs.Values.{OptionsWithin, options_in};
-ghost use Rattle.dp_words.specs.Run.{Run, RunWithin, ShowsNamed, ShowsRun, shown, shown_source, source_of};
+ghost use Rattle.dp_words.specs.Run.{RunAsked, RunWithin, ShowsNamed, ShowsRun, shown, shown_source, source_of};
 ghost use Rattle.dp_words.specs.Planning.{Planning, ShowsPlanning, shown_planning};
 ghost use Rattle.dp_words.specs.Profiling.{Profiling, ProfilingWithin, ShowsProfiling, shown_profiling};
 ghost use Rattle.dp_words.specs.Made.{MadeWithin, ShowsMade};
@@ -30,7 +30,7 @@ pub fn run_words<'w>(matches: &ArgMatches<'w>) -> Option<RunWords<'w>>
     requires numbers { HoldsNumbers (values_of matches.now) }
     ensures some { IfSome result (λ words. ShowsRun (values_of matches.now) (shown words)) }
     ensures within { IfSome result (λ words. RunWithin (shown words)) }
-    ensures none { IfNone result ((run : Run) → ¬ ShowsRun (values_of matches.now) run) }
+    ensures none { IfNone result ((run : RunAsked) → ¬ ShowsRun (values_of matches.now) run) }
 {
     let program = matches.get_str("program")?;
     let source = plan_source(matches.get_str("plan"), matches.get_str("profile"))?;
@@ -50,7 +50,7 @@ pub fn named_run<'w>(matches: &ArgMatches<'w>, id: &str) -> Option<(RunWords<'w>
     requires numbers { HoldsNumbers (values_of matches.now) }
     ensures some { IfSome result (λ named. ShowsNamed id.now (values_of matches.now) (shown named.0, named.1.now)) }
     ensures within { IfSome result (λ named. RunWithin (shown named.0)) }
-    ensures none { IfNone result ((named : Run × List ℕ) → ¬ ShowsNamed id.now (values_of matches.now) named) }
+    ensures none { IfNone result ((named : RunAsked × List ℕ) → ¬ ShowsNamed id.now (values_of matches.now) named) }
 {
     let run = run_words(matches)?;
     let name = matches.get_str(id)?;
@@ -62,7 +62,7 @@ pub fn saving_words<'w>(matches: &ArgMatches<'w>) -> Option<(RunWords<'w>, Place
     requires numbers { HoldsNumbers (values_of matches.now) }
     ensures some { IfSome result (λ saving. ShowsSaving (values_of matches.now) (shown saving.0, saving.1)) }
     ensures within { IfSome result (λ saving. RunWithin (shown saving.0) × PlaceWithin saving.1) }
-    ensures none { IfNone result ((saving : Run × Place) → ¬ ShowsSaving (values_of matches.now) saving) }
+    ensures none { IfNone result ((saving : RunAsked × Place) → ¬ ShowsSaving (values_of matches.now) saving) }
 {
     let run = run_words(matches)?;
     let region = given_small_number(matches.get_str("region"))?;

@@ -1,6 +1,6 @@
 //! The words, read by their verb.
 ghost use Rattle.std.specs.Prelude.{◌∷◌, map, string_bytes, IfOk, IfSome, IfNone};
-ghost use Rattle.dp_words.specs.Words.{Asks, AsksNothing, IsWithin, asked_in};
+ghost use Rattle.dp_words.specs.Words.{Asks, AsksNothing, IsWithin, asked_by};
 ghost use Rattle.dp_words.specs.steps.Table.{IsTrueLine};
 ghost use Rattle.dp_words.specs.steps.Verbs.{Answers, verb_name};
 
@@ -14,7 +14,7 @@ use std::alloc::Global;
 
 /// What the words ask for, if they are taken.
 pub fn asked(alloc: Global, words: &[String]) -> Result<Option<Task<'_>>, NoMemory>
-    ensures some { IfOk result (λ task. IfSome task (λ t. Asks (map string_bytes words.now) (asked_in t))) }
+    ensures some { IfOk result (λ task. IfSome task (λ t. Asks (map string_bytes words.now) (asked_by t))) }
     ensures within { IfOk result (λ task. IfSome task IsWithin) }
     ensures none { IfOk result (λ task. IfNone task (AsksNothing (map string_bytes words.now))) }
 {

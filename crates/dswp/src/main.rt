@@ -7,7 +7,7 @@ mod tests;
 
 use dp_drive::drive;
 use dp_edge::OpenGate;
-use dp_messages::{Kept, Line, Shown, tell};
+use dp_messages::{Choices, Kept, Line, Shown, asks_choices, tell, tell_choices};
 use dp_run::{NoNativeCode, Tally};
 use dp_system::{FileShelf, OutSink, keep_freed_memory};
 use std::io::{ErrorKind, IsTerminal};
@@ -30,7 +30,8 @@ fn main(rt: HostRuntime) -> ExitCode {
     let stderr = rt.stderr();
     let shown = Shown::new(&stderr);
     let mut output = Kept::new(rt.alloc(), OutSink::new(&rt), &shown);
-    let progress = Line::new(rt.alloc(), &rt, &shown, is_watched(&rt));
+    let choices = Choices::new(rt.alloc(), asks_choices(&rt));
+    let progress = Line::new(rt.alloc(), &rt, &shown, is_watched(&rt), choices);
     let mut tally = Tally::new(progress);
     let status = drive(
         &rt,
@@ -43,7 +44,13 @@ fn main(rt: HostRuntime) -> ExitCode {
         &mut tally,
     );
     shown.wipe();
-    tell_people(&rt, words.as_slice(), status, output.tail());
+    tell_people(
+        &rt,
+        words.as_slice(),
+        status,
+        output.tail(),
+        tally.watch().choices(),
+    );
     ExitCode::from(status)
 }
 
@@ -53,11 +60,12 @@ fn is_watched(rt: &HostRuntime) -> bool {
 }
 
 /// Writes what people are told to standard error. What fails there changes no answer.
-fn tell_people(rt: &HostRuntime, words: &[String], status: u8, tail: &[u8]) {
+fn tell_people(rt: &HostRuntime, words: &[String], status: u8, tail: &[u8], choices: &Choices) {
     let stderr = rt.stderr();
     let mut files = FileShelf::new(rt);
     let mut errors = OutSink::new(&stderr);
     let _ = tell(rt.alloc(), words, &mut files, status, tail, &mut errors);
+    let _ = tell_choices(rt.alloc(), choices, &mut errors);
 }
 
 /// The words after the program's name.

@@ -11,6 +11,7 @@ mod bytes;
 mod calls;
 mod cases;
 mod causes;
+mod choices;
 mod examples;
 mod exits;
 mod explained;

@@ -5,7 +5,7 @@ ghost use Rattle.dp_plan.specs.declared.Plan.{Plan as PlanValue};
 ghost use Rattle.dp_meaning.specs.MachineState.{MachineState};
 ghost use Rattle.dp_pipeline.specs.Coming.{Coming};
 ghost use Rattle.dp_epoch.specs.Remade.{iteration_end};
-ghost use Rattle.dp_audit.specs.Runs.{Judged, Stands, UnderWay, Unclean};
+ghost use Rattle.dp_audit.specs.Runs.{CommitsNext, RegionStands, EpochUnderWay, Unclean};
 ghost use Rattle.dp_audit.specs.Groups.{Makes};
 
 use super::Runner;
@@ -28,9 +28,9 @@ where
 {
     /// Makes the next iteration, which isn't begun where no step is left.
     pub(crate) fn make<R: Wait + Clock>(&mut self, rt: &R) -> Result<Group, NoMemory>
-        requires stands { (p : Tree) × (plan : PlanValue) × (input : List ℤ) × (first : MachineState) × (n : ℕ) × Stands p plan input first n self.old }
+        requires stands { (p : Tree) × (plan : PlanValue) × (input : List ℤ) × (first : MachineState) × (n : ℕ) × RegionStands p plan input first n self.old }
         ensures made { IfOk result (λ group. (p : Tree) (plan : PlanValue) (input : List ℤ) (first : MachineState) (n : ℕ) →
-            Stands p plan input first n self.old → Makes p plan input first self.old.ledger.committed self.new group) }
+            RegionStands p plan input first n self.old → Makes p plan input first self.old.ledger.committed self.new group) }
     {
         let mut verdicts = self.current()?;
         match verdicts.next(rt) {
@@ -45,10 +45,10 @@ where
 
     /// The verdicts of the epoch under way, or of one that begins.
     fn current(&mut self) -> Result<LaneVerdicts<'s>, NoMemory>
-        requires stands { (p : Tree) × (plan : PlanValue) × (input : List ℤ) × (first : MachineState) × (n : ℕ) × Stands p plan input first n self.old }
+        requires stands { (p : Tree) × (plan : PlanValue) × (input : List ℤ) × (first : MachineState) × (n : ℕ) × RegionStands p plan input first n self.old }
         ensures kept { OnOk result (self.new ≡ record self.old { verdicts = None }) }
         ensures verdicts { IfOk result (λ verdicts. (p : Tree) (plan : PlanValue) (input : List ℤ) (first : MachineState) (n : ℕ) →
-            Stands p plan input first n self.old → UnderWay plan first self.old.ledger verdicts) }
+            RegionStands p plan input first n self.old → EpochUnderWay plan first self.old.ledger verdicts) }
     {
         match self.verdicts.take() {
             Some(verdicts) => Ok(verdicts),
@@ -58,9 +58,9 @@ where
 
     /// Commits the iteration on which the last of these verdicts was.
     fn commit(&mut self, verdicts: LaneVerdicts<'s>, clean: Clean) -> Result<Group, NoMemory>
-        requires judged { (p : Tree) × (plan : PlanValue) × (input : List ℤ) × (first : MachineState) × Judged p plan input first self.old verdicts clean }
+        requires judged { (p : Tree) × (plan : PlanValue) × (input : List ℤ) × (first : MachineState) × CommitsNext p plan input first self.old verdicts clean }
         ensures made { IfOk result (λ group. (p : Tree) (plan : PlanValue) (input : List ℤ) (first : MachineState) →
-            Judged p plan input first self.old verdicts.entry clean → Makes p plan input first self.old.ledger.committed self.new group) }
+            CommitsNext p plan input first self.old verdicts.entry clean → Makes p plan input first self.old.ledger.committed self.new group) }
     {
         if clean.closing() {
             drop(verdicts);
@@ -71,10 +71,10 @@ where
 
     /// Commits an iteration behind which the epoch goes on.
     fn go_on(&mut self, verdicts: LaneVerdicts<'s>, clean: Clean) -> Result<Group, NoMemory>
-        requires judged { (p : Tree) × (plan : PlanValue) × (input : List ℤ) × (first : MachineState) × Judged p plan input first self.old verdicts clean }
+        requires judged { (p : Tree) × (plan : PlanValue) × (input : List ℤ) × (first : MachineState) × CommitsNext p plan input first self.old verdicts clean }
         requires going { clean.closing ≡ false }
         ensures made { IfOk result (λ group. (p : Tree) (plan : PlanValue) (input : List ℤ) (first : MachineState) →
-            Judged p plan input first self.old verdicts.entry clean → Makes p plan input first self.old.ledger.committed self.new group) }
+            CommitsNext p plan input first self.old verdicts.entry clean → Makes p plan input first self.old.ledger.committed self.new group) }
     {
         let number = self.ledger.committed.count();
         let stored = cells_of(self.epochs.alloc, clean.stores())?;
@@ -88,10 +88,11 @@ where
 
     /// Commits the closing iteration.
     fn close(&mut self, clean: Clean) -> Result<Group, NoMemory>
-        requires judged { (p : Tree) × (plan : PlanValue) × (input : List ℤ) × (first : MachineState) × (v : Coming) × Judged p plan input first self.old v clean }
+        requires judged { (p : Tree) × (plan : PlanValue) × (input : List ℤ) × (first : MachineState) × (v : Coming)
+            × CommitsNext p plan input first self.old v clean }
         requires closing { clean.closing ≡ true }
         ensures made { IfOk result (λ group. (p : Tree) (plan : PlanValue) (input : List ℤ) (first : MachineState) (v : Coming) →
-            Judged p plan input first self.old v clean → Makes p plan input first self.old.ledger.committed self.new group) }
+            CommitsNext p plan input first self.old v clean → Makes p plan input first self.old.ledger.committed self.new group) }
     {
         let number = self.ledger.committed.count();
         self.ledger

@@ -66,7 +66,8 @@ greater : compared greatest least ≡ Ok (pos 0) ∷ Ok (pos 0) ∷ Ok (pos 1) �
 unfolding binary_result number_of
 greater = refl
 
-negated : map (unary_result Neg) (pos 0 ∷ pos 5 ∷ negsuc 4 ∷ greatest ∷ least ∷ []) ≡ Ok (pos 0) ∷ Ok (negsuc 4) ∷ Ok (pos 5) ∷ Ok (negsuc 9223372036854775806) ∷ Err Overflow ∷ []
+negated : map (unary_result Neg) (pos 0 ∷ pos 5 ∷ negsuc 4 ∷ greatest ∷ least ∷ []) ≡ Ok (pos 0) ∷ Ok (negsuc 4) ∷ Ok (pos 5)
+    ∷ Ok (negsuc 9223372036854775806) ∷ Err Overflow ∷ []
 unfolding unary_result
 negated = refl
 

@@ -12,7 +12,8 @@ use Rattle.dp_tree.specs.Trace.{Run, run_of, begin, prints}
 use Rattle.dp_calls.specs.Expand.{expand}
 use Rattle.dp_calls.specs.ExpandLaws.{erased}
 use Rattle.dp_calls.specs.Frames.{outcome}
-use Rattle.dp_tree.proofs.Build.{num, var, at, bin, set, say, when, loop, region, call, scalar, site, one_region, function, program, with_functions, tree_opened}
+use Rattle.dp_tree.proofs.Build.{num, var, at, bin, set, say, when, loop, region, call, scalar, site, one_region, function, program, with_functions}
+use Rattle.dp_tree.proofs.Build.{tree_opened}
 use Rattle.dp_tree.proofs.Programs.{add, word_table, word_table_expanded}
 
 abbrev run_expanded : Program → List ℤ → ℕ → Run

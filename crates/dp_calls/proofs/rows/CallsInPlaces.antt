@@ -12,16 +12,16 @@ use Rattle.dp_tree.specs.declared.Program.{Program}
 use Rattle.dp_tree.specs.Checked.{IsChecked}
 use Rattle.dp_tree.specs.Trace.{run_of, begin}
 use Rattle.dp_calls.specs.Expand.{expand}
-use Rattle.dp_calls.specs.Frames.{Outcome, outcome}
+use Rattle.dp_calls.specs.Frames.{CallsOutcome, outcome}
 use Rattle.dp_calls.specs.Meaning.{outcome_of_run}
 use Rattle.dp_tree.proofs.Build.{num, var, bin, set, say, loop, region, call, scalar, site, one_region, function, program, with_functions, tree_opened}
 use Rattle.dp_tree.proofs.Programs.{add}
 
 -- what the expanded program does
-abbrev expanded : Program → ℕ → Outcome
+abbrev expanded : Program → ℕ → CallsOutcome
 expanded p fuel = outcome_of_run (expand p) (run_of (expand p) [] fuel (begin (expand p)))
 
-abbrev does : List ℤ → List ℤ → ℕ → End → Outcome
+abbrev does : List ℤ → List ℤ → ℕ → End → CallsOutcome
 does printed globals steps end = record { prints = printed; globals = globals; steps = steps; end = end }
 
 -- 1  int g;
@@ -118,7 +118,8 @@ branching = with_functions (function (2 ∷ []) (set 5 3 (add (var 2) (num 1)) �
     (program (scalar 0 (pos 0) Global ∷ scalar 1 (pos 0) Outer ∷ scalar 2 (pos 0) Outer ∷ scalar 3 (pos 0) Outer ∷ [])
     (site 6 Assign 0 ∷ site 8 While 1 ∷ site 9 If 1 ∷ site 10 Assign 1 ∷ site 3 Assign 0 ∷ site 4 Assign 0 ∷ []) (one_region 8 2 4)
     (set 1 1 (num 0) ∷ region 1 2 (bin op.Lt (var 1) (num 3))
-    (stmt.If (record { 0 = 3 }) (bin op.Eq (var 1) (num 1)) (call 0 9 (num 10 ∷ []) ∷ []) (call 0 9 (var 1 ∷ []) ∷ []) ∷ set 4 1 (add (var 1) (num 1)) ∷ []) ∷ []))
+    (stmt.If (record { 0 = 3 }) (bin op.Eq (var 1) (num 1)) (call 0 9 (num 10 ∷ []) ∷ []) (call 0 9 (var 1 ∷ []) ∷ [])
+    ∷ set 4 1 (add (var 1) (num 1)) ∷ []) ∷ []))
 
 branching_in_frames : outcome branching [] 100 ≡ does [] (pos 11103 ∷ []) 20 Done
 unfolding tree_opened
@@ -164,7 +165,8 @@ leaving = with_functions (function (2 ∷ []) (set 5 3 (add (var 2) (num 1)) ∷
     (program (scalar 0 (pos 0) Global ∷ scalar 1 (pos 0) Outer ∷ scalar 2 (pos 0) Outer ∷ scalar 3 (pos 0) Outer ∷ [])
     (site 6 Assign 0 ∷ site 8 While 1 ∷ site 10 Break 1 ∷ site 12 Assign 1 ∷ site 3 Assign 0 ∷ site 4 Assign 0 ∷ []) (one_region 8 2 4)
     (set 1 1 (num 0) ∷ region 1 2 (bin op.Lt (var 1) (num 9))
-    (call 0 9 (var 1 ∷ []) ∷ stmt.Break (record { 0 = 3 }) (bin op.Eq (var 1) (num 1)) ∷ call 0 11 (num 7 ∷ []) ∷ set 4 1 (add (var 1) (num 1)) ∷ []) ∷ call 0 13 (var 1 ∷ []) ∷ []))
+    (call 0 9 (var 1 ∷ []) ∷ stmt.Break (record { 0 = 3 }) (bin op.Eq (var 1) (num 1)) ∷ call 0 11 (num 7 ∷ []) ∷ set 4 1 (add (var 1) (num 1)) ∷ [])
+    ∷ call 0 13 (var 1 ∷ []) ∷ []))
 
 leaving_in_frames : outcome leaving [] 100 ≡ does [] (pos 1080202 ∷ []) 18 Done
 unfolding tree_opened

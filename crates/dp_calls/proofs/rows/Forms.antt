@@ -11,15 +11,18 @@ use Rattle.dp_tree.specs.declared.Program.{Program}
 use Rattle.dp_calls.specs.Expand.{expand}
 use Rattle.dp_calls.specs.Frames.{outcome}
 use Rattle.dp_calls.specs.Renaming.{Renamed, renamed}
-use Rattle.dp_tree.proofs.Build.{num, var, at, bin, set, set_at, say, loop, region, call, scalar, array, site, one_region, function, program, with_functions, tree_opened}
+use Rattle.dp_tree.proofs.Build.{num, var, at, bin, set, set_at, say, loop, region, call, scalar, array, site, one_region, function, program, with_functions}
+use Rattle.dp_tree.proofs.Build.{tree_opened}
 use Rattle.dp_tree.proofs.Programs.{add}
 
 -- the first entry of a variable counts, and a variable without one keeps its number
 abbrev names : List Renamed
 names = record { source = 3; target = 8 } ∷ record { source = 4; target = 9 } ∷ record { source = 3; target = 5 } ∷ []
 
-each_expression : renamed names (tree.Or (tree.And (tree.Input (var 3)) (at 3 (var 4))) (bin op.Lt (tree.Unary sign.Not (var 3)) (bin op.Sub (var 4) (bin op.Mul (var 7) (tree.And tree.InputLen (num 3))))))
-    ≡ tree.Or (tree.And (tree.Input (var 8)) (at 8 (var 9))) (bin op.Lt (tree.Unary sign.Not (var 8)) (bin op.Sub (var 9) (bin op.Mul (var 7) (tree.And tree.InputLen (num 3)))))
+each_expression : renamed names (tree.Or (tree.And (tree.Input (var 3)) (at 3 (var 4)))
+    (bin op.Lt (tree.Unary sign.Not (var 3)) (bin op.Sub (var 4) (bin op.Mul (var 7) (tree.And tree.InputLen (num 3))))))
+    ≡ tree.Or (tree.And (tree.Input (var 8)) (at 8 (var 9)))
+    (bin op.Lt (tree.Unary sign.Not (var 8)) (bin op.Sub (var 9) (bin op.Mul (var 7) (tree.And tree.InputLen (num 3)))))
 unfolding tree_opened
 each_expression = refl
 
@@ -42,7 +45,8 @@ each_statement = refl
 -- each iteration, also in the first one behind a call
 abbrev reading_early : Program
 reading_early = with_functions (function [] (set 5 0 (var 0) ∷ []) ∷ [])
-    (program (scalar 0 (pos 0) Global ∷ scalar 1 (pos 0) (Body 1) ∷ []) (site 1 Assign 0 ∷ site 1 While 1 ∷ site 1 Assign 1 ∷ site 1 Assign 1 ∷ site 1 Assign 0 ∷ []) (one_region 1 2 4)
+    (program (scalar 0 (pos 0) Global ∷ scalar 1 (pos 0) (Body 1) ∷ []) (site 1 Assign 0 ∷ site 1 While 1 ∷ site 1 Assign 1 ∷ site 1 Assign 1 ∷ site 1 Assign 0
+    ∷ []) (one_region 1 2 4)
     (set 1 1 (num 5) ∷ call 0 1 [] ∷ region 1 2 (bin op.Lt (var 0) (num 2)) (set 3 0 (add (add (var 0) (num 1)) (var 1)) ∷ set 4 1 (num 5) ∷ []) ∷ []))
 
 reads_zero : outcome reading_early [] 100 ≡ record { prints = []; globals = pos 2 ∷ []; steps = 9; end = Done }

@@ -27,9 +27,11 @@ text_without_calls_stays p none = keeps_text p none
 stores_stay_at_home : (p : Program) → IsChecked p → list_all (stores_home_at_top (expand p).vars) (expand p).main ≡ true
 stores_stay_at_home p checked = expanded_at_home p checked
 
-module _ (p : Program) (starts : list_all start_fits p.vars ≡ true) (text : list_all (everywhere site_fits) p.main ≡ true) (bodies : list_all (λ f. list_all (everywhere site_fits) f.body) p.functions ≡ true) where
+module _ (p : Program) (starts : list_all start_fits p.vars ≡ true) (text : list_all (everywhere site_fits) p.main ≡ true)
+    (bodies : list_all (λ f. list_all (everywhere site_fits) f.body) p.functions ≡ true) where
   small : numbers_fit (expand p) ≡ true
-  small = keeps_numbers_small p (and_make (numbers_fit p) (list_all body_fits p.functions) (and_make (list_all start_fits p.vars) (list_all (everywhere site_fits) p.main) starts text) bodies)
+  small = keeps_numbers_small p (and_make (numbers_fit p) (list_all body_fits p.functions)
+      (and_make (list_all start_fits p.vars) (list_all (everywhere site_fits) p.main) starts text) bodies)
 
   starts_stay_small : list_all start_fits (expand p).vars ≡ true
   starts_stay_small = (and_true (list_all start_fits (expand p).vars) (list_all (everywhere site_fits) (expand p).main) small).0

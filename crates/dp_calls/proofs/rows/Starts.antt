@@ -12,11 +12,13 @@ abbrev beside : VarInfo → Program
 beside x = program (scalar 0 (pos 5) Global ∷ x ∷ []) [] [] []
 
 -- locals start at 0
-starts_taken : map (λ x. locals_start_clear (beside x)) (scalar 1 (negsuc 6) Global ∷ scalar 1 (pos 0) Outer ∷ scalar 1 (pos 0) (Body 1) ∷ scalar 1 (pos 0) (Body 7) ∷ []) ≡ true ∷ true ∷ true ∷ true ∷ []
+starts_taken : map (λ x. locals_start_clear (beside x)) (scalar 1 (negsuc 6) Global ∷ scalar 1 (pos 0) Outer ∷ scalar 1 (pos 0) (Body 1)
+    ∷ scalar 1 (pos 0) (Body 7) ∷ []) ≡ true ∷ true ∷ true ∷ true ∷ []
 unfolding is_zero
 starts_taken = refl
 
 -- no local starts elsewhere, and there is no region 0
-starts_refused : map (λ x. locals_start_clear (beside x)) (scalar 1 (pos 1) Outer ∷ scalar 1 (pos 1) (Body 1) ∷ scalar 1 (negsuc 0) (Body 1) ∷ scalar 1 (pos 0) (Body 0) ∷ []) ≡ false ∷ false ∷ false ∷ false ∷ []
+starts_refused : map (λ x. locals_start_clear (beside x)) (scalar 1 (pos 1) Outer ∷ scalar 1 (pos 1) (Body 1) ∷ scalar 1 (negsuc 0) (Body 1)
+    ∷ scalar 1 (pos 0) (Body 0) ∷ []) ≡ false ∷ false ∷ false ∷ false ∷ []
 unfolding is_zero
 starts_refused = refl

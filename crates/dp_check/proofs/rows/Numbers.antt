@@ -51,8 +51,10 @@ items = item.Scalar (on 1 (codes "n")) (negsuc 2) ∷ item.Array (on 1 (codes "a
 -- 22 print(k);
 abbrev main : List RawStmt
 main = declare 11 12 (codes "i") (num 0)
-    ∷ stmt.While 14 true (var 14 (codes "n")) (declare 14 14 (codes "t") (expr.Element (on 14 (codes "a")) (var 14 (codes "i"))) ∷ stmt.Call (on 14 (codes "g")) (var 14 (codes "t") ∷ []) ∷ [])
-    ∷ stmt.If 15 (var 15 (codes "i")) (set 15 (codes "n") (expr.Element (on 15 (codes "input")) (num 2)) ∷ []) (declare 16 16 (codes "u") (var 16 (codes "input_len")) ∷ [])
+    ∷ stmt.While 14 true (var 14 (codes "n")) (declare 14 14 (codes "t") (expr.Element (on 14 (codes "a")) (var 14 (codes "i"))) ∷ stmt.Call (on 14 (codes "g"))
+    (var 14 (codes "t") ∷ []) ∷ [])
+    ∷ stmt.If 15 (var 15 (codes "i")) (set 15 (codes "n") (expr.Element (on 15 (codes "input")) (num 2)) ∷ [])
+    (declare 16 16 (codes "u") (var 16 (codes "input_len")) ∷ [])
     ∷ stmt.While 18 true (var 18 (codes "k")) (stmt.If 18 (var 18 (codes "i")) (say 18 (num 5) ∷ set 19 (codes "i") (num 6) ∷ []) [] ∷ [])
     ∷ stmt.While 21 false (var 21 (codes "n")) (declare 21 21 (codes "t") (var 21 (codes "i")) ∷ [])
     ∷ say 22 (var 22 (codes "k")) ∷ []
@@ -66,15 +68,19 @@ raw = record { items = items; main = main }
 -- the file-scope variables, then those of `main`, then those of the functions; a function's variables are of no region
 variables : (resolved raw).vars
     ≡ named_scalar (codes "n") 0 (negsuc 2) Global ∷ record (numbered.array 1 4) { name = codes "a" } ∷ named_scalar (codes "k") 5 (pos 9) Global
-    ∷ named_scalar (codes "i") 6 (pos 0) Outer ∷ named_scalar (codes "t") 7 (pos 0) (Body 1) ∷ named_scalar (codes "u") 8 (pos 0) Outer ∷ named_scalar (codes "t") 9 (pos 0) Outer
-    ∷ named_scalar (codes "p") 10 (pos 0) Outer ∷ named_scalar (codes "q") 11 (pos 0) Outer ∷ named_scalar (codes "r") 12 (pos 0) Outer ∷ named_scalar (codes "s") 13 (pos 0) Outer ∷ []
+    ∷ named_scalar (codes "i") 6 (pos 0) Outer ∷ named_scalar (codes "t") 7 (pos 0) (Body 1) ∷ named_scalar (codes "u") 8 (pos 0) Outer
+    ∷ named_scalar (codes "t") 9 (pos 0) Outer
+    ∷ named_scalar (codes "p") 10 (pos 0) Outer ∷ named_scalar (codes "q") 11 (pos 0) Outer ∷ named_scalar (codes "r") 12 (pos 0) Outer
+    ∷ named_scalar (codes "s") 13 (pos 0) Outer ∷ []
 unfolding names_opened
 variables = refl
 
 -- the sites of `main`, then those of the functions; a site has the line of its statement's first token
 sites : (resolved raw).sites
-    ≡ numbered.site 11 kind.Assign 0 ∷ numbered.site 14 kind.While 1 ∷ numbered.site 14 kind.Assign 1 ∷ numbered.site 15 kind.If 0 ∷ numbered.site 15 kind.Assign 0 ∷ numbered.site 16 kind.Assign 0
-    ∷ numbered.site 18 kind.While 2 ∷ numbered.site 18 kind.If 2 ∷ numbered.site 18 kind.Print 2 ∷ numbered.site 19 kind.Assign 2 ∷ numbered.site 21 kind.While 0 ∷ numbered.site 21 kind.Assign 0 ∷ numbered.site 22 kind.Print 0
+    ≡ numbered.site 11 kind.Assign 0 ∷ numbered.site 14 kind.While 1 ∷ numbered.site 14 kind.Assign 1 ∷ numbered.site 15 kind.If 0
+    ∷ numbered.site 15 kind.Assign 0 ∷ numbered.site 16 kind.Assign 0
+    ∷ numbered.site 18 kind.While 2 ∷ numbered.site 18 kind.If 2 ∷ numbered.site 18 kind.Print 2 ∷ numbered.site 19 kind.Assign 2
+    ∷ numbered.site 21 kind.While 0 ∷ numbered.site 21 kind.Assign 0 ∷ numbered.site 22 kind.Print 0
     ∷ numbered.site 3 kind.Assign 0 ∷ numbered.site 3 kind.Assign 0 ∷ numbered.site 6 kind.While 0 ∷ []
 unfolding names_opened
 sites = refl
@@ -91,7 +97,8 @@ unfolding names_opened
 functions = refl
 
 main_statements : (resolved raw).main
-    ≡ numbered.set 1 3 (numbered.num 0) ∷ numbered.region 1 2 (numbered.var 0) (numbered.set 3 4 (numbered.at 1 (numbered.var 3)) ∷ numbered.call 1 14 (numbered.var 4 ∷ []) ∷ [])
+    ≡ numbered.set 1 3 (numbered.num 0) ∷ numbered.region 1 2 (numbered.var 0) (numbered.set 3 4 (numbered.at 1 (numbered.var 3))
+    ∷ numbered.call 1 14 (numbered.var 4 ∷ []) ∷ [])
     ∷ code.If (record { 0 = 4 }) (numbered.var 3) (numbered.set 5 0 (tree.Input (numbered.num 2)) ∷ []) (numbered.set 6 5 tree.InputLen ∷ [])
     ∷ numbered.region 2 7 (numbered.var 2) (numbered.when 8 (numbered.var 3) (numbered.say 9 (numbered.num 5) ∷ numbered.set 10 3 (numbered.num 6) ∷ []) ∷ [])
     ∷ numbered.loop 11 (numbered.var 0) (numbered.set 12 6 (numbered.var 3) ∷ []) ∷ numbered.say 13 (numbered.var 2) ∷ []
@@ -100,8 +107,10 @@ main_statements = refl
 
 -- each form of an expression keeps its operator and the order of its operands
 expressions : resolved_expr (record { name = codes "x"; meaning = Scalar (record { 0 = 8 }) } ∷ [])
-    (expr.Or (expr.And (var 1 (codes "x")) (num 2)) (expr.Binary op.Sub (expr.Unary unary.Not (num 3)) (expr.Binary op.Lt (num 4) (expr.Unary unary.Neg (var 1 (codes "x"))))))
-    ≡ tree.Or (tree.And (numbered.var 8) (numbered.num 2)) (tree.Binary op.Sub (tree.Unary unary.Not (numbered.num 3)) (tree.Binary op.Lt (numbered.num 4) (tree.Unary unary.Neg (numbered.var 8))))
+    (expr.Or (expr.And (var 1 (codes "x")) (num 2)) (expr.Binary op.Sub (expr.Unary unary.Not (num 3))
+    (expr.Binary op.Lt (num 4) (expr.Unary unary.Neg (var 1 (codes "x"))))))
+    ≡ tree.Or (tree.And (numbered.var 8) (numbered.num 2)) (tree.Binary op.Sub (tree.Unary unary.Not (numbered.num 3))
+    (tree.Binary op.Lt (numbered.num 4) (tree.Unary unary.Neg (numbered.var 8))))
 unfolding names_opened
 expressions = refl
 

@@ -33,15 +33,18 @@ assigns_an_element = refl
 calls_with_two : offences (Calls 2) ≡ Some (Unknown 7) ∷ Some (Unknown 7) ∷ Some (Unknown 7) ∷ Some (Unknown 7) ∷ Some (Unknown 7) ∷ None ∷ []
 calls_with_two = refl
 
-other_numbers_of_arguments : map (λ count. offence_of 7 (Calls count) (Some (Function 1 2))) (0 ∷ 1 ∷ 3 ∷ []) ≡ Some (Arguments 7) ∷ Some (Arguments 7) ∷ Some (Arguments 7) ∷ []
+other_numbers_of_arguments : map (λ count. offence_of 7 (Calls count) (Some (Function 1 2))) (0 ∷ 1 ∷ 3 ∷ []) ≡ Some (Arguments 7) ∷ Some (Arguments 7)
+    ∷ Some (Arguments 7) ∷ []
 other_numbers_of_arguments = refl
 
 -- names are compared whole
 abbrev names : List Named
 names = record { name = codes "ab"; meaning = Scalar (record { 0 = 5 }) } ∷ record { name = codes "a"; meaning = Scalar (record { 0 = 6 }) } ∷ []
 
-whole_names : map (named names) (codes "a" ∷ codes "ab" ∷ codes "abc" ∷ codes "b" ∷ codes "A" ∷ [] ∷ []) ≡ Some (Scalar (record { 0 = 6 })) ∷ Some (Scalar (record { 0 = 5 })) ∷ None ∷ None ∷ None ∷ None ∷ []
+whole_names : map (named names) (codes "a" ∷ codes "ab" ∷ codes "abc" ∷ codes "b" ∷ codes "A" ∷ [] ∷ []) ≡ Some (Scalar (record { 0 = 6 }))
+    ∷ Some (Scalar (record { 0 = 5 })) ∷ None ∷ None ∷ None ∷ None ∷ []
 whole_names = refl
 
-stand_before_every_text : map (named predeclared) (codes "input" ∷ codes "input_len" ∷ codes "main" ∷ codes "print" ∷ []) ≡ Some Input ∷ Some InputLen ∷ None ∷ None ∷ []
+stand_before_every_text : map (named predeclared) (codes "input" ∷ codes "input_len" ∷ codes "main" ∷ codes "print" ∷ []) ≡ Some Input
+    ∷ Some InputLen ∷ None ∷ None ∷ []
 stand_before_every_text = refl

@@ -6,7 +6,7 @@ use Rattle.dp_tree.specs.declared.raw.RawStmt.{RawStmt, out-RawStmt}
 use Rattle.dp_check.specs.declared.variables.Variables.{Variables}
 use Rattle.dp_check.specs.declared.sites.Sites.{Sites}
 use Rattle.dp_check.specs.Place.{parts}
-use Rattle.dp_check.specs.Tables.{laid, region_of, top_sites, main_sites, regions_from}
+use Rattle.dp_check.specs.Tables.{laid, region_made, top_sites, main_sites, regions_from}
 use Rattle.dp_check.specs.Limits.{cell_sum}
 
 -- the table with more variables, whose cells come next
@@ -19,7 +19,7 @@ with_sites t xs = record t { rows = t.rows ++ xs; next = t.next + length xs }
 
 -- the table after a statement at the top of `main`, where region r is the next one
 abbrev pub with_top : Sites → ℕ → RawStmt → Sites
-with_top t r s = record (with_sites t (top_sites r s)) { regions = t.regions ++ region_of t.next (out-RawStmt s) (parts s) }
+with_top t r s = record (with_sites t (top_sites r s)) { regions = t.regions ++ region_made t.next (out-RawStmt s) (parts s) }
 
 -- the table after `main`
 abbrev pub with_main : Sites → ℕ → List RawStmt → Sites

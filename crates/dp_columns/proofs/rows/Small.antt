@@ -20,7 +20,8 @@ load cell value = record { cell = cell; value = pos value }
 -- a value, an element, and two stores of a block, of which the second is put behind an element
 abbrev begun : Columned
 begun =
-    with_block_store 2 (Stored 9 (pos 6)) (with_told 1 (Did 4 (pos 2)) (with_block_store 2 (Stored 3 (pos 1)) (with_told 0 (Did 7 (pos 5)) (nothing_kept kinds))))
+    with_block_store 2 (Stored 9 (pos 6))
+    (with_told 1 (Did 4 (pos 2)) (with_block_store 2 (Stored 3 (pos 1)) (with_told 0 (Did 7 (pos 5)) (nothing_kept kinds))))
 
 -- a block that isn't ended is in no queue
 unfinished : begun.told ≡ (Did 7 (pos 5) ∷ []) ∷ (Did 4 (pos 2) ∷ []) ∷ [] ∷ [] ∷ []

@@ -9,7 +9,7 @@ use Rattle.dp_depend.proofs.rows.Graphs.{edges_opened}
 use Rattle.dp_tree.proofs.RegionPrograms.{early_exit}
 use Rattle.dp_depend.proofs.rows.Programs.{generated, inner_loops, inner_loops_shown, skip_negative_shown}
 use Rattle.dp_cut.specs.Automatic.{node_pairs, weights_of}
-use Rattle.dp_cut.specs.LeastPlan.{unit_weights, carried_pairs, plan_before_table, plan_of_cut}
+use Rattle.dp_cut.specs.LeastPlan.{unit_weights, carried_pairs, cut_plan_before_table, plan_of_cut}
 use Rattle.dp_least_cut.proofs.rows.Cuts.{seq, par}
 
 -- sites 2 and 5 are one unit, and 3 and 4 one each
@@ -38,7 +38,7 @@ pairs_of_sum_loop : node_pairs sum_loop 1 None 10 ≡ (0, 1) ∷ (0, 2) ∷ (0, 
 unfolding edges_opened
 pairs_of_sum_loop = refl
 
-whole_plan : plan_before_table sum_loop 1 (0 ∷ 1 ∷ 2 ∷ 0 ∷ []) [] (seq 1 ∷ seq 2 ∷ [])
+whole_plan : cut_plan_before_table sum_loop 1 (0 ∷ 1 ∷ 2 ∷ 0 ∷ []) [] (seq 1 ∷ seq 2 ∷ [])
     ≡ record { region = 1; words = 4096; stages = Seq ∷ Seq ∷ []; stage_of = 1 ∷ 2 ∷ 2 ∷ 1 ∷ []; assume = []; proved = true; checked_at = [] }
 unfolding tree_opened
 whole_plan = refl
@@ -64,10 +64,12 @@ unfolding tree_opened
 needed = refl
 
 -- one stage of four units is replicated
-four_stages : (plan_of_cut generated 1 (0 ∷ 1 ∷ 0 ∷ 2 ∷ 3 ∷ 4 ∷ 5 ∷ 6 ∷ 7 ∷ 8 ∷ []) [] (seq 1 ∷ seq 2 ∷ par 4 ∷ seq 2 ∷ [])).stage_of ≡ 1 ∷ 2 ∷ 1 ∷ 2 ∷ 3 ∷ 3 ∷ 3 ∷ 3 ∷ 4 ∷ 4 ∷ []
+four_stages : (plan_of_cut generated 1 (0 ∷ 1 ∷ 0 ∷ 2 ∷ 3 ∷ 4 ∷ 5 ∷ 6 ∷ 7 ∷ 8 ∷ []) [] (seq 1 ∷ seq 2 ∷ par 4 ∷ seq 2 ∷ [])).stage_of ≡ 1 ∷ 2 ∷ 1 ∷ 2 ∷ 3 ∷ 3
+    ∷ 3 ∷ 3 ∷ 4 ∷ 4 ∷ []
 four_stages = refl
 
-kinds_of_four : (plan_of_cut generated 1 (0 ∷ 1 ∷ 0 ∷ 2 ∷ 3 ∷ 4 ∷ 5 ∷ 6 ∷ 7 ∷ 8 ∷ []) [] (seq 1 ∷ seq 2 ∷ par 4 ∷ seq 2 ∷ [])).stages ≡ Seq ∷ Seq ∷ Par ∷ Seq ∷ []
+kinds_of_four : (plan_of_cut generated 1 (0 ∷ 1 ∷ 0 ∷ 2 ∷ 3 ∷ 4 ∷ 5 ∷ 6 ∷ 7 ∷ 8 ∷ []) [] (seq 1 ∷ seq 2 ∷ par 4 ∷ seq 2 ∷ [])).stages ≡ Seq
+    ∷ Seq ∷ Par ∷ Seq ∷ []
 kinds_of_four = refl
 
 -- the exit comes with what it lets pass

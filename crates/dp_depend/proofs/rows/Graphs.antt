@@ -70,24 +70,29 @@ chain = refl
 
 -- the second region: what is stored in an inner loop is loaded in front of it within the outermost one, and in no other
 inner : edges_of inner_loops 2 None 10
-    ≡ control 4 5 ∷ control 4 6 ∷ control 4 7 ∷ control 4 8 ∷ control 4 9 ∷ control 4 10 ∷ control 4 11 ∷ control 4 12 ∷ control 4 13 ∷ control 4 14 ∷ control 5 6
+    ≡ control 4 5 ∷ control 4 6 ∷ control 4 7 ∷ control 4 8 ∷ control 4 9 ∷ control 4 10 ∷ control 4 11 ∷ control 4 12 ∷ control 4 13
+    ∷ control 4 14 ∷ control 5 6
     ∷ control 5 7 ∷ control 5 8 ∷ control 6 7 ∷ intra 7 6 ∷ carried 7 6 ∷ intra 7 7 ∷ carried 7 7 ∷ intra 7 8 ∷ carried 7 8 ∷ intra 7 9 ∷ carried 7 9
     ∷ intra 7 11 ∷ carried 7 11 ∷ intra 7 12 ∷ carried 7 12 ∷ intra 7 13 ∷ carried 7 13 ∷ intra 8 5 ∷ carried 8 5 ∷ intra 8 6 ∷ carried 8 6 ∷ intra 8 8
-    ∷ carried 8 8 ∷ intra 8 10 ∷ carried 8 10 ∷ control 9 10 ∷ control 9 11 ∷ intra 10 12 ∷ carried 10 12 ∷ intra 10 13 ∷ carried 10 13 ∷ intra 11 12 ∷ carried 11 12
-    ∷ intra 11 13 ∷ carried 11 13 ∷ control 12 13 ∷ carried 13 6 ∷ carried 13 7 ∷ carried 13 8 ∷ carried 13 9 ∷ carried 13 11 ∷ intra 13 12 ∷ carried 13 12 ∷ intra 13 13
+    ∷ carried 8 8 ∷ intra 8 10 ∷ carried 8 10 ∷ control 9 10 ∷ control 9 11 ∷ intra 10 12 ∷ carried 10 12 ∷ intra 10 13 ∷ carried 10 13
+    ∷ intra 11 12 ∷ carried 11 12
+    ∷ intra 11 13 ∷ carried 11 13 ∷ control 12 13 ∷ carried 13 6 ∷ carried 13 7 ∷ carried 13 8 ∷ carried 13 9 ∷ carried 13 11 ∷ intra 13 12
+    ∷ carried 13 12 ∷ intra 13 13
     ∷ carried 13 13 ∷ carried 14 4 ∷ carried 14 5 ∷ carried 14 14 ∷ []
 unfolding edges_opened
 inner = refl
 
 -- its own counts decide, those of the site that loads
 of_its_own_counts : edges_of inner_loops 2 (Some inner_loops_shown) 400
-    ≡ control 4 5 ∷ control 4 6 ∷ control 4 7 ∷ control 4 8 ∷ control 4 9 ∷ control 4 10 ∷ control 4 11 ∷ control 4 12 ∷ control 4 13 ∷ control 4 14 ∷ control 5 6
+    ≡ control 4 5 ∷ control 4 6 ∷ control 4 7 ∷ control 4 8 ∷ control 4 9 ∷ control 4 10 ∷ control 4 11 ∷ control 4 12 ∷ control 4 13
+    ∷ control 4 14 ∷ control 5 6
     ∷ control 5 7 ∷ control 5 8 ∷ control 6 7 ∷ control 9 10 ∷ control 9 11 ∷ control 12 13 ∷ carried 13 7 ∷ []
 unfolding edges_opened
 of_its_own_counts = refl
 
 -- what is stored one element ahead is loaded in the next iteration, and two elements ahead never
 apart : edges_of ahead 1 None 10
-    ≡ control 2 3 ∷ control 2 4 ∷ control 2 5 ∷ control 2 6 ∷ carried 3 4 ∷ carried 4 4 ∷ intra 4 5 ∷ carried 4 5 ∷ carried 5 4 ∷ carried 5 5 ∷ carried 6 2 ∷ carried 6 3 ∷ carried 6 4 ∷ carried 6 5 ∷ carried 6 6 ∷ []
+    ≡ control 2 3 ∷ control 2 4 ∷ control 2 5 ∷ control 2 6 ∷ carried 3 4 ∷ carried 4 4 ∷ intra 4 5 ∷ carried 4 5 ∷ carried 5 4 ∷ carried 5 5 ∷ carried 6 2
+    ∷ carried 6 3 ∷ carried 6 4 ∷ carried 6 5 ∷ carried 6 6 ∷ []
 unfolding edges_opened
 apart = refl

@@ -27,11 +27,14 @@ mixed x = bin op.Rem (add (bin op.Mul (var x) (num 5)) (num 3)) (num 16)
 -- 15     sum = sum + y;
 abbrev pub generated : Program
 generated = program
-    (array 0 16 ∷ scalar 16 (pos 0) Global ∷ scalar 17 (pos 0) Outer ∷ scalar 18 (pos 0) (Body 1) ∷ scalar 19 (pos 0) (Body 1) ∷ scalar 20 (pos 0) (Body 1) ∷ scalar 21 (pos 0) (Body 1) ∷ scalar 22 (pos 0) (Body 1) ∷ scalar 23 (pos 0) (Body 1) ∷ [])
-    (site 4 Assign 0 ∷ site 6 While 1 ∷ site 7 Assign 1 ∷ site 8 Assign 1 ∷ site 9 Assign 1 ∷ site 10 Assign 1 ∷ site 11 Assign 1 ∷ site 12 Assign 1 ∷ site 13 Assign 1 ∷ site 14 Assign 1 ∷ site 15 Assign 1 ∷ [])
+    (array 0 16 ∷ scalar 16 (pos 0) Global ∷ scalar 17 (pos 0) Outer ∷ scalar 18 (pos 0) (Body 1) ∷ scalar 19 (pos 0) (Body 1) ∷ scalar 20 (pos 0) (Body 1)
+    ∷ scalar 21 (pos 0) (Body 1) ∷ scalar 22 (pos 0) (Body 1) ∷ scalar 23 (pos 0) (Body 1) ∷ [])
+    (site 4 Assign 0 ∷ site 6 While 1 ∷ site 7 Assign 1 ∷ site 8 Assign 1 ∷ site 9 Assign 1 ∷ site 10 Assign 1 ∷ site 11 Assign 1 ∷ site 12 Assign 1
+    ∷ site 13 Assign 1 ∷ site 14 Assign 1 ∷ site 15 Assign 1 ∷ [])
     (one_region 6 2 11)
     (set 1 2 (num 0) ∷ region 1 2 (bin op.Lt (var 2) tree.InputLen)
-    (set 3 3 (tree.Input (var 2)) ∷ set 4 2 (add (var 2) (num 1)) ∷ set 5 4 (bin op.Rem (var 3) (num 16)) ∷ set 6 5 (mixed 4) ∷ set 7 6 (mixed 5) ∷ set 8 7 (mixed 6) ∷ set 9 8 (mixed 7)
+    (set 3 3 (tree.Input (var 2)) ∷ set 4 2 (add (var 2) (num 1)) ∷ set 5 4 (bin op.Rem (var 3) (num 16)) ∷ set 6 5 (mixed 4) ∷ set 7 6 (mixed 5)
+    ∷ set 8 7 (mixed 6) ∷ set 9 8 (mixed 7)
     ∷ set_at 10 0 (var 8) (add (at 0 (var 8)) (num 1)) ∷ set 11 1 (add (var 1) (var 8)) ∷ []) ∷ [])
 
 -- 1  int s;
@@ -54,7 +57,8 @@ generated = program
 abbrev pub inner_loops : Program
 inner_loops = program
     (scalar 0 (pos 0) Global ∷ scalar 1 (pos 0) Global ∷ scalar 2 (pos 0) Global ∷ scalar 3 (pos 0) Outer ∷ [])
-    (site 5 Assign 0 ∷ site 7 While 1 ∷ site 8 Assign 1 ∷ site 10 While 2 ∷ site 11 While 2 ∷ site 12 While 2 ∷ site 13 Assign 2 ∷ site 14 Assign 2 ∷ site 15 If 2 ∷ site 16 Assign 2 ∷ site 17 Assign 2 ∷ site 18 While 2 ∷ site 19 Assign 2 ∷ site 20 Assign 2 ∷ [])
+    (site 5 Assign 0 ∷ site 7 While 1 ∷ site 8 Assign 1 ∷ site 10 While 2 ∷ site 11 While 2 ∷ site 12 While 2 ∷ site 13 Assign 2 ∷ site 14 Assign 2
+    ∷ site 15 If 2 ∷ site 16 Assign 2 ∷ site 17 Assign 2 ∷ site 18 While 2 ∷ site 19 Assign 2 ∷ site 20 Assign 2 ∷ [])
     (record { line = 7; first = record { 0 = 2 }; last = record { 0 = 3 } } ∷ record { line = 10; first = record { 0 = 4 }; last = record { 0 = 14 } } ∷ [])
     (set 1 3 (num 0) ∷ region 1 2 (bin op.Lt (var 3) (num 1)) (set 3 3 (add (var 3) (num 1)) ∷ []) ∷ region 2 4 (bin op.Lt (var 3) (num 3))
     (loop 5 (bin op.Lt (var 0) (var 3)) (loop 6 (bin op.Lt (var 1) (var 0)) (set 7 1 (add (var 1) (num 1)) ∷ []) ∷ set 8 0 (add (var 0) (var 1)) ∷ [])
@@ -63,7 +67,13 @@ inner_loops = program
 
 -- Nothing was counted in the first region. In the second each site ran; what site 6 loads is rare, and what site 7 loads isn't.
 abbrev pub inner_loops_shown : Profile
-inner_loops_shown = record { regions = record { sites = count 0 0 ∷ count 0 0 ∷ []; flows = [] } ∷ record { sites = count 3 2 ∷ count 3 1 ∷ count 3 1 ∷ count 1 0 ∷ count 1 0 ∷ count 2 1 ∷ count 1 0 ∷ count 1 0 ∷ count 3 1 ∷ count 3 0 ∷ count 2 0 ∷ []; flows = flow 7 6 true 1 ∷ flow 13 7 true 1 ∷ [] } ∷ [] }
+inner_loops_shown = record {
+  regions = record { sites = count 0 0 ∷ count 0 0 ∷ []; flows = [] }
+      ∷ record {
+        sites = count 3 2 ∷ count 3 1 ∷ count 3 1 ∷ count 1 0 ∷ count 1 0 ∷ count 2 1 ∷ count 1 0 ∷ count 1 0 ∷ count 3 1 ∷ count 3 0 ∷ count 2 0 ∷ [];
+        flows = flow 7 6 true 1 ∷ flow 13 7 true 1 ∷ [];
+      } ∷ [];
+}
 
 -- 1  int a[9];
 -- 2  int s;
@@ -78,4 +88,5 @@ ahead = program
     (site 4 Assign 0 ∷ site 6 While 1 ∷ site 7 Assign 1 ∷ site 8 Assign 1 ∷ site 9 Assign 1 ∷ site 10 Assign 1 ∷ [])
     (one_region 6 2 6)
     (set 1 2 (num 0) ∷ region 1 2 (bin op.Lt (var 2) (num 4))
-    (set_at 3 0 (add (var 2) (num 1)) (num 7) ∷ set 4 1 (add (var 1) (at 0 (var 2))) ∷ set 5 1 (add (var 1) (at 0 (add (var 2) (num 2)))) ∷ set 6 2 (add (var 2) (num 1)) ∷ []) ∷ [])
+    (set_at 3 0 (add (var 2) (num 1)) (num 7) ∷ set 4 1 (add (var 1) (at 0 (var 2))) ∷ set 5 1 (add (var 1) (at 0 (add (var 2) (num 2))))
+    ∷ set 6 2 (add (var 2) (num 1)) ∷ []) ∷ [])

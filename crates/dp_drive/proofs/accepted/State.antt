@@ -1,5 +1,6 @@
 -- The state in a run's text needs the cells of the file-scope variables alone.
-use Rattle.std.proofs.Common.{◌≡◌, refl, sym, ap, ◌∙◌, ℕ, ◌+◌, ◌-◌, ◌≤◌, ◌==◌, Bool, true, false, ◌&&◌, if◌then◌else◌, List, [], ◌∷◌, ◌++◌, length, take, drop, replicate, ℤ, arith, eqb-true, subst}
+use Rattle.std.proofs.Common.{◌≡◌, refl, sym, ap, ◌∙◌, ℕ, ◌+◌, ◌-◌, ◌≤◌, ◌==◌, Bool, true, false, ◌&&◌, if◌then◌else◌, List, [], ◌∷◌, ◌++◌, length, take, drop}
+use Rattle.std.proofs.Common.{replicate, ℤ, arith, eqb-true, subst}
 use Rattle.std.specs.Prelude.{codes}
 use Rattle.std.proofs.lemmas.Bool.{and_parts}
 use Rattle.std.proofs.lemmas.List.{drop-take, take-take, length-replicate, length-append}
@@ -9,10 +10,10 @@ use Rattle.dp_tree.specs.declared.VarInfo.{VarInfo}
 use Rattle.dp_tree.specs.Globals.{is_global_scope, globals_in}
 use Rattle.dp_tree.specs.Layout.{has_cells, lies_in_order, is_local_variable, globals_first}
 use Rattle.dp_tree.specs.Trace.{start_cells}
-use Rattle.dp_report.specs.StateText.{values, variable_line, state_bytes}
+use Rattle.dp_report.specs.StateText.{variable_values, variable_line, state_bytes}
 use Rattle.dp_report.specs.Lines.{line, spaced_signed}
 
-values_within : (n : ℕ) (cells : List ℤ) (v : VarInfo) → v.first.0 + v.length ≤ n → values (take n cells) v ≡ values cells v
+values_within : (n : ℕ) (cells : List ℤ) (v : VarInfo) → v.first.0 + v.length ≤ n → variable_values (take n cells) v ≡ variable_values cells v
 values_within n cells v within =
     let apart : n ≡ v.first.0 + (n - v.first.0) = omega (arith, within) in
     let short : v.length ≤ n - v.first.0 = omega (arith, within) in
@@ -21,7 +22,8 @@ values_within n cells v within =
     ∙ take-take v.length (n - v.first.0) (drop v.first.0 cells) short
 
 -- The lines of the file-scope variables, whose cells are among the first n.
-state_within : (k n : ℕ) (cells : List ℤ) (vars : List VarInfo) → lies_in_order k vars ≡ true → globals_first vars ≡ true → k + length (start_cells (globals_in vars)) ≤ n →
+state_within : (k n : ℕ) (cells : List ℤ) (vars : List VarInfo) → lies_in_order k vars ≡ true → globals_first vars ≡ true →
+    k + length (start_cells (globals_in vars)) ≤ n →
     flat_map (variable_line (take n cells)) (globals_in vars) ≡ flat_map (variable_line cells) (globals_in vars)
 state_within k n cells [] order first within = refl
 state_within k n cells (x ∷ rest) order first within = by (is_global_scope x.scope) refl (state_within (k + x.length) n cells rest parts.1)
@@ -33,18 +35,23 @@ state_within k n cells (x ∷ rest) order first within = by (is_global_scope x.s
     here = eqb-true x.first.0 k (and_parts (x.first.0 == k) (has_cells x) parts.0).0
 
     by : (b : Bool) → is_global_scope x.scope ≡ b →
-        (globals_first rest ≡ true → k + x.length + length (start_cells (globals_in rest)) ≤ n → flat_map (variable_line (take n cells)) (globals_in rest) ≡ flat_map (variable_line cells) (globals_in rest)) →
-        flat_map (variable_line (take n cells)) (if b then x ∷ globals_in rest else globals_in rest) ≡ flat_map (variable_line cells) (if b then x ∷ globals_in rest else globals_in rest)
+        (globals_first rest ≡ true → k + x.length + length (start_cells (globals_in rest)) ≤ n →
+        flat_map (variable_line (take n cells)) (globals_in rest) ≡ flat_map (variable_line cells) (globals_in rest)) →
+        flat_map (variable_line (take n cells)) (if b then x ∷ globals_in rest else globals_in rest) ≡ flat_map (variable_line cells)
+        (if b then x ∷ globals_in rest else globals_in rest)
     by true is go =
         let more : globals_first rest ≡ true = sym (ap (λ (b : Bool). if b then globals_first rest else list_all is_local_variable rest) is) ∙ first in
         let total : length (start_cells (x ∷ globals_in rest)) ≡ x.length + length (start_cells (globals_in rest)) =
-        length-append (replicate x.length x.start) (start_cells (globals_in rest)) ∙ ap (λ (m : ℕ). m + length (start_cells (globals_in rest))) (length-replicate x.length x.start) in
-        let all : k + length (start_cells (x ∷ globals_in rest)) ≤ n = subst (λ (b : Bool). k + length (start_cells (if b then x ∷ globals_in rest else globals_in rest)) ≤ n) is within in
+        length-append (replicate x.length x.start) (start_cells (globals_in rest)) ∙ ap (λ (m : ℕ). m + length (start_cells (globals_in rest)))
+        (length-replicate x.length x.start) in
+        let all : k + length (start_cells (x ∷ globals_in rest)) ≤ n = subst
+        (λ (b : Bool). k + length (start_cells (if b then x ∷ globals_in rest else globals_in rest)) ≤ n) is within in
         let inside : x.first.0 + x.length ≤ n = omega (arith, here, all, total) in
         ap (λ (zs : List ℤ). line (x.name ++ spaced_signed zs) ++ flat_map (variable_line (take n cells)) (globals_in rest)) (values_within n cells x inside)
         ∙ ap (λ (bytes : List ℕ). variable_line cells x ++ bytes) (go more (omega (arith, all, total)))
     by false is go =
-        let none : globals_in rest ≡ [] = no_files rest (sym (ap (λ (b : Bool). if b then globals_first rest else list_all is_local_variable rest) is) ∙ first) in
+        let none : globals_in rest ≡ [] = no_files rest
+        (sym (ap (λ (b : Bool). if b then globals_first rest else list_all is_local_variable rest) is) ∙ first) in
         ap (flat_map (variable_line (take n cells))) none ∙ sym (ap (flat_map (variable_line cells)) none)
 
 -- The state's text, from the first cells alone.

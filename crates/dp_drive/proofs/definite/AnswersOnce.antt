@@ -4,11 +4,12 @@ use Rattle.dp_tree.specs.declared.Program.{Program}
 use Rattle.dp_plan.specs.declared.Plan.{Plan}
 use Rattle.dp_profile.specs.declared.Profile.{Profile}
 use Rattle.dp_calls.specs.Expand.{expand}
-use Rattle.dp_words.specs.Words.{Asked, Asks, AsksNothing, ToRun, ToPlan, ToExplain, ToList, ToTree, ToProfile, ToMake, ToLog, ToAudit, ToSave, ToResume, ToBatch}
+use Rattle.dp_words.specs.Words.{Asked, Asks, AsksNothing, ToRun, ToPlan, ToExplain, ToList, ToTree, ToProfile, ToMake, ToLog, ToAudit, ToSave, ToResume}
+use Rattle.dp_words.specs.Words.{ToBatch}
 use Rattle.dp_refusal.specs.declared.refusal.Refusal.{Refusal}
 use Rattle.dp_refusal.specs.declared.refusal.Refusal.TheVariants.{Words}
 use Rattle.dp_refusal.specs.Refusal.{refusal_line, refusal_status}
-use Rattle.dp_load.specs.Last.{Behind}
+use Rattle.dp_load.specs.Last.{LastText}
 use Rattle.dp_load.specs.Order.{ReadsAll, given_by}
 use Rattle.dp_load.proofs.definite.TextsOnce.{all_once, counts_once}
 use Rattle.dp_explain.specs.Explanation.{IsExplanation}
@@ -21,16 +22,19 @@ abbrev refused : Refusal → ℕ × List ℕ
 refused refusal = (refusal_status refusal, refusal_line refusal)
 
 abbrev Read : Type 0
-Read = Result ((((Program × List ℤ) × List (List ℤ)) × List Plan) × Behind) Refusal
+Read = Result ((((Program × List ℤ) × List (List ℤ)) × List Plan) × LastText) Refusal
 
 module _ (held : List ℕ → Option (List ℕ)) where
   -- the bytes of what is done
-  bytes_once : (asked : Asked) (read : (((Program × List ℤ) × List (List ℤ)) × List Plan) × Behind) (a b : List ℕ) → ReadsAll (Some held) asked (Ok read) → BytesFor (Some held) asked (given_by read) a → BytesFor (Some held) asked (given_by read) b → a ≡ b
+  bytes_once : (asked : Asked) (read : (((Program × List ℤ) × List (List ℤ)) × List Plan) × LastText) (a b : List ℕ) → ReadsAll (Some held) asked (Ok read) →
+      BytesFor (Some held) asked (given_by read) a → BytesFor (Some held) asked (given_by read) b → a ≡ b
   bytes_once (ToRun run) read a b texts x y = x ∙ sym y
   bytes_once (ToPlan planning) read a b texts x y = x ∙ sym y
   bytes_once (ToExplain planning) read a b texts x y =
-      let counts : x.profile ≡ y.profile = counts_once held (ToExplain planning) planning.options read planning.profile x.profile y.profile texts x.counts y.counts in
-      explained_once (expand read.0.0.0.0) y.profile planning.options.rate read.0.1 a b (subst (λ (o : Option Profile). IsExplanation (expand read.0.0.0.0) o planning.options.rate read.0.1 a) counts x.text) y.text
+      let counts : x.profile ≡ y.profile = counts_once held (ToExplain planning) planning.options read planning.profile x.profile y.profile texts
+      x.counts y.counts in
+      explained_once (expand read.0.0.0.0) y.profile planning.options.rate read.0.1 a b
+      (subst (λ (o : Option Profile). IsExplanation (expand read.0.0.0.0) o planning.options.rate read.0.1 a) counts x.text) y.text
   bytes_once (ToList program) read a b texts x y = x ∙ sym y
   bytes_once (ToTree program) read a b texts x y = x ∙ sym y
   bytes_once (ToProfile profiling) read a b texts x y = x ∙ sym y
@@ -48,7 +52,8 @@ module _ (held : List ℕ → Option (List ℕ)) where
 
   given_once : (asked : Asked) (read : Read) (a b : ℕ × List ℕ) → ReadsAll (Some held) asked read → IsGiven asked read a → IsGiven asked read b → a ≡ b
   given_once asked (Err refusal) a b texts x y = x ∙ sym y
-  given_once asked (Ok read) a b texts x y = ap₂ (λ (status : ℕ) (bytes : List ℕ). (status, bytes)) (x.0 ∙ sym y.0) (bytes_once asked read a.1 b.1 texts x.1 y.1)
+  given_once asked (Ok read) a b texts x y =
+      ap₂ (λ (status : ℕ) (bytes : List ℕ). (status, bytes)) (x.0 ∙ sym y.0) (bytes_once asked read a.1 b.1 texts x.1 y.1)
 
   data Way (words : List (List ℕ)) (answer : ℕ × List ℕ) : Type 0 where
     nothing : AsksNothing words → answer ≡ refused Words → Way words answer
@@ -69,5 +74,7 @@ module _ (held : List ℕ → Option (List ℕ)) where
       let same : read ≡ more = all_once held asked read more h here in
       given_once asked read a b h e (subst (λ (r : Read). IsGiven asked r b) (sym same) (subst (λ (z : Asked). IsGiven z more b) (sym one) f))
 
-  pub answers_once : {words : List (List ℕ)} {status other : ℕ} {bytes more : List ℕ} → Answer words (Some held) status bytes → Answer words (Some held) other more → (status ≡ other) × (bytes ≡ more)
-  answers_once {words = words} a b = let same = ways_once words (way words a) (way words b) in (ap (λ (z : ℕ × List ℕ). z.0) same, ap (λ (z : ℕ × List ℕ). z.1) same)
+  pub answers_once : {words : List (List ℕ)} {status other : ℕ} {bytes more : List ℕ} → Answer words (Some held) status bytes →
+      Answer words (Some held) other more → (status ≡ other) × (bytes ≡ more)
+  answers_once {words = words} a b = let same = ways_once words (way words a) (way words b) in
+      (ap (λ (z : ℕ × List ℕ). z.0) same, ap (λ (z : ℕ × List ℕ). z.1) same)

@@ -35,8 +35,10 @@ PlanningText Bare p profile rate plans bytes = bytes ≡ plans_text p plans
 PlanningText Explained p profile rate plans bytes = IsExplanation p profile rate plans bytes
 
 -- The least plans of an expanded program were made by this profile and listed, or memory was wanting before anything was written.
-pub data ListsLeast (text : PlansText) (p : Program) (options : PlanOptions) (profile : Option Profile) (told tells : Option (List ℕ)) (result : Result ℕ WriteFail) : Type 0 where
-  Made : (plans : List Plan) (bytes : List ℕ) → MakesPlans p options profile plans → PlanningText text p profile options.rate plans bytes → Finishes 0 bytes told tells result → ListsLeast text p options profile told tells result
+pub data ListsLeast (text : PlansText) (p : Program) (options : PlanOptions) (profile : Option Profile) (told tells : Option (List ℕ))
+    (result : Result ℕ WriteFail) : Type 0 where
+  Made : (plans : List Plan) (bytes : List ℕ) → MakesPlans p options profile plans → PlanningText text p profile options.rate plans bytes →
+      Finishes 0 bytes told tells result → ListsLeast text p options profile told tells result
   Wanting : result ≡ Err NoMemory → tells ≡ told → ListsLeast text p options profile told tells result
 
 -- Such a text of the program under this name is asked for.
@@ -49,5 +51,6 @@ pub record ListsProgram (listing : Listing) (asked : Asked) (name : List ℕ) : 
 pub record ListsPlans (text : PlansText) (asked : Asked) (planning : Planning) : Type 0 where
   pub reads : ReadsLeastPlans asked planning
   pub status : (texts : Given) → status_for asked texts ≡ 0
-  pub bytes : (contents : Contents) (texts : Given) (profile : Option Profile) (bytes : List ℕ) → Profiled contents (expand texts.program) planning.profile (Ok profile) →
+  pub bytes : (contents : Contents) (texts : Given) (profile : Option Profile) (bytes : List ℕ) →
+      Profiled contents (expand texts.program) planning.profile (Ok profile) →
       PlanningText text (expand texts.program) profile planning.options.rate texts.plans bytes → BytesFor contents asked texts bytes

@@ -2,12 +2,12 @@
 use Rattle.std.proofs.Common.{◌≡◌, refl, ℕ, ◌-◌, ◌^◌, List, [], ◌∷◌, ℤ, pos, negsuc, ◌++◌, Some, None, Result, Ok, Err, codes}
 use Rattle.dp_text.specs.Digits.{digit_after}
 use Rattle.dp_edge.specs.Digits.{magnitude_of}
-use Rattle.dp_edge.specs.Input.{words, number_of, numbers_of, AnswersInput}
+use Rattle.dp_edge.specs.Input.{input_words, number_written, numbers_of, AnswersInput}
 use Rattle.dp_edge.specs.declared.input.InputFail.{InputFail}
 use Rattle.dp_edge.specs.declared.input.InputFail.TheVariants.{TooMany, Refused}
 
 -- each of the four blanks parts words, and no other byte does
-blanks : words (codes " 1\t\t-2\r3\n" ++ 11 ∷ 52 ∷ 12 ∷ 0 ∷ []) ≡ codes "1" ∷ codes "-2" ∷ codes "3" ∷ (11 ∷ 52 ∷ 12 ∷ 0 ∷ []) ∷ []
+blanks : input_words (codes " 1\t\t-2\r3\n" ++ 11 ∷ 52 ∷ 12 ∷ 0 ∷ []) ≡ codes "1" ∷ codes "-2" ∷ codes "3" ∷ (11 ∷ 52 ∷ 12 ∷ 0 ∷ []) ∷ []
 blanks = refl
 
 no_word : numbers_of (codes " \t\r\n") ≡ Ok []
@@ -17,16 +17,16 @@ read : numbers_of (codes "007 -3 -0\n10") ≡ Ok (pos 7 ∷ negsuc 2 ∷ pos 0 �
 read = refl
 
 -- the bytes right before `0` and right behind `9` are no digits
-beside_the_digits : (number_of (codes "1/") ≡ None) × (number_of (codes "1:") ≡ None)
+beside_the_digits : (number_written (codes "1/") ≡ None) × (number_written (codes "1:") ≡ None)
 beside_the_digits = (refl, refl)
 
-greatest : (number_of (codes "9223372036854775807") ≡ Some (pos 9223372036854775807)) × (number_of (codes "9223372036854775808") ≡ None)
+greatest : (number_written (codes "9223372036854775807") ≡ Some (pos 9223372036854775807)) × (number_written (codes "9223372036854775808") ≡ None)
 greatest = (refl, refl)
 
-least : (number_of (codes "-9223372036854775808") ≡ Some (negsuc 9223372036854775807)) × (number_of (codes "-9223372036854775809") ≡ None)
+least : (number_written (codes "-9223372036854775808") ≡ Some (negsuc 9223372036854775807)) × (number_written (codes "-9223372036854775809") ≡ None)
 least = (refl, refl)
 
-signs : (number_of (codes "-") ≡ None) × (number_of (codes "--5") ≡ None) × (number_of (codes "+5") ≡ None)
+signs : (number_written (codes "-") ≡ None) × (number_written (codes "--5") ≡ None) × (number_written (codes "+5") ≡ None)
 signs = (refl, refl, refl)
 
 -- the first of two faulty words is refused, at its place from 1

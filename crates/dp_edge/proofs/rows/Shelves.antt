@@ -4,11 +4,12 @@ use Rattle.std.specs.declared.alloc.Global.{Global}
 use Rattle.dp_edge.specs.declared.mem_shelf.Held.{Held}
 use Rattle.dp_edge.specs.declared.shelf.ShelfFail.{ShelfFail}
 use Rattle.dp_edge.specs.declared.shelf.ShelfFail.TheVariants.{Failed, TooLong, NoMemory}
-use Rattle.dp_edge.specs.MemShelf.{Stock, next_answer, Answers, after_read}
-use Rattle.dp_edge.specs.Shelf.{FaultsAfterRead, names_after_read, OnTooLong, Took, ReadsContent}
+use Rattle.dp_edge.specs.MemShelf.{Stock, next_answer, AnswersAsWanted, after_read}
+use Rattle.dp_edge.specs.Shelf.{FaultsAfterRead, names_after_read, OnTooLong, TookBytes, ReadsContent}
 
 abbrev texts : List Held
-texts = record { name = codes "a"; content = codes "first" } ∷ record { name = codes "b"; content = [] } ∷ record { name = codes "a"; content = codes "second" } ∷ []
+texts = record { name = codes "a"; content = codes "first" } ∷ record { name = codes "b"; content = [] }
+    ∷ record { name = codes "a"; content = codes "second" } ∷ []
 
 -- two calls were made, one of which failed, and five bytes were taken
 abbrev stock : Stock
@@ -35,7 +36,8 @@ last_call_again : next_answer (record stock { calls = 18446744073709551615; fail
 last_call_again = refl
 
 -- an answer counts the call, and the bytes that it gives
-after_ok : (bytes : Vec ℕ Global) → after_read (Ok bytes) stock (codes "a") 9 ≡ record stock { calls = 3; taken = min (5 + length bytes.items) 18446744073709551615 }
+after_ok : (bytes : Vec ℕ Global) →
+    after_read (Ok bytes) stock (codes "a") 9 ≡ record stock { calls = 3; taken = min (5 + length bytes.items) 18446744073709551615 }
 after_ok bytes = refl
 
 -- a failed one is a fault, and its name comes last
@@ -56,13 +58,13 @@ after_no_memory = refl
 -- ---- each answer that says something, written out
 
 module _ (bytes : Vec ℕ Global) (wanted : Result (List ℕ) ShelfFail) where
-  answers_ok : Answers (Ok bytes) wanted → wanted ≡ Ok bytes.items
+  answers_ok : AnswersAsWanted (Ok bytes) wanted → wanted ≡ Ok bytes.items
   answers_ok e = e
 
-  answers_failed : Answers (Err Failed) wanted → wanted ≡ Err Failed
+  answers_failed : AnswersAsWanted (Err Failed) wanted → wanted ≡ Err Failed
   answers_failed e = e
 
-  answers_too_long : Answers (Err TooLong) wanted → wanted ≡ Err TooLong
+  answers_too_long : AnswersAsWanted (Err TooLong) wanted → wanted ≡ Err TooLong
   answers_too_long e = e
 
 -- a read that fails is one fault more at least, and no other is a fault
@@ -85,14 +87,15 @@ names answer = names_after_read answer (codes "c") (codes "old" ∷ [])
 name_added : names {X = ℕ} (Err Failed) ≡ codes "old" ∷ codes "c" ∷ []
 name_added = refl
 
-no_name_added : (names {X = ℕ} (Ok 1) ∷ names {X = ℕ} (Err TooLong) ∷ names {X = ℕ} (Err NoMemory) ∷ []) ≡ (codes "old" ∷ []) ∷ (codes "old" ∷ []) ∷ (codes "old" ∷ []) ∷ []
+no_name_added : (names {X = ℕ} (Ok 1) ∷ names {X = ℕ} (Err TooLong) ∷ names {X = ℕ} (Err NoMemory) ∷ []) ≡ (codes "old" ∷ []) ∷ (codes "old" ∷ [])
+    ∷ (codes "old" ∷ []) ∷ []
 no_name_added = refl
 
 too_long_alone : (P : Type 0) → OnTooLong {X = ℕ} (Err TooLong) P → P
 too_long_alone P p = p
 
 -- a count that took n bytes
-took : (n old new : ℕ) → Took n old new → (old + n ≤ new) ⊎ (new ≡ 18446744073709551615)
+took : (n old new : ℕ) → TookBytes n old new → (old + n ≤ new) ⊎ (new ≡ 18446744073709551615)
 took n old new t = t
 
 -- the answer is true of what is held

@@ -2,7 +2,7 @@
 use Rattle.std.proofs.Common.{◌≡◌, refl, ◌<◌, ℕ, true, false, List, length, take, Option, Some, None, Result, Ok, Err, codes}
 use Rattle.dp_edge.specs.declared.sink.PutFail.{PutFail}
 use Rattle.dp_edge.specs.declared.sink.PutFail.TheVariants.{Failed, NoMemory}
-use Rattle.dp_edge.specs.MemSink.{Basin, fits, AnswersPut, after_put}
+use Rattle.dp_edge.specs.MemSink.{Basin, has_room_for, AnswersPut, after_put}
 use Rattle.dp_edge.specs.Sink.{FaultsAfterPut, appended, Puts}
 
 abbrev basin : Basin
@@ -25,15 +25,15 @@ after_failed = refl
 after_no_memory : after (Err NoMemory) ≡ basin
 after_no_memory = refl
 
-fits_so_many : (fits (Some 9) 9 ≡ true) × (fits (Some 9) 10 ≡ false) × (fits None 10 ≡ true)
+fits_so_many : (has_room_for (Some 9) 9 ≡ true) × (has_room_for (Some 9) 10 ≡ false) × (has_room_for None 10 ≡ true)
 fits_so_many = (refl, refl, refl)
 
 -- ---- each answer that says something, written out
 
-ok_where_all_fit : (bytes : List ℕ) → AnswersPut {X = ℕ} (Ok 1) basin bytes → fits basin.left (length bytes) ≡ true
+ok_where_all_fit : (bytes : List ℕ) → AnswersPut {X = ℕ} (Ok 1) basin bytes → has_room_for basin.left (length bytes) ≡ true
 ok_where_all_fit bytes e = e
 
-failed_where_not : (bytes : List ℕ) → AnswersPut {X = ℕ} (Err Failed) basin bytes → fits basin.left (length bytes) ≡ false
+failed_where_not : (bytes : List ℕ) → AnswersPut {X = ℕ} (Err Failed) basin bytes → has_room_for basin.left (length bytes) ≡ false
 failed_where_not bytes e = e
 
 -- a put that fails is one fault more at least, and no other is a fault

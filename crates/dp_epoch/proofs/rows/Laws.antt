@@ -26,11 +26,13 @@ module _ (p : Program) (plan : Plan) (first last : MachineState) where
     the_same_end_is_ahead : (rest_of_run last).end ≡ (region_run first).end
     the_same_end_is_ahead = sym ran.made.piece.end
 
-    each_other_region_starts_behind_it : (q : ℕ) → q ≢ plan.region → starts (region_run first) q ≡ map (λ (k : ℕ). length begun + k) (starts (rest_of_run last) q)
+    each_other_region_starts_behind_it : (q : ℕ) → q ≢ plan.region → starts (region_run first) q ≡ map (λ (k : ℕ). length begun + k)
+        (starts (rest_of_run last) q)
     each_other_region_starts_behind_it = ran.made.others
 
   -- a region that is left
-  its_last_iteration_closes_it : RegionRan p plan first last Closed → (i : ℕ) → begun_count (region_run first) plan.region ≡ suc i → is_closing (region_run first) plan.region i ≡ true
+  its_last_iteration_closes_it : RegionRan p plan first last Closed → (i : ℕ) → begun_count (region_run first) plan.region ≡ suc i →
+      is_closing (region_run first) plan.region i ≡ true
   its_last_iteration_closes_it ran i e =
       let same : i ≡ ran.ends.iteration = omega (arith, e, ran.ends.is_last) in
       ap (is_closing (region_run first) plan.region) same ∙ ran.ends.closing

@@ -42,7 +42,8 @@ edge_of from to kind = record { from = record { 0 = from }; to = record { 0 = to
 abbrev some_edges : List Edge
 some_edges = edge_of 2 10 Control ∷ edge_of 3 2 Carried ∷ edge_of 3 4 Intra ∷ edge_of 4 3 Intra ∷ edge_of 4 4 Carried ∷ []
 
-edges : edge_texts (codes "edge ") two_variables 2 three_nodes some_edges ≡ codes "edge 2 10 control\nedge 3 2 carried 1 h\nedge 3 4 intra 1 h\nedge 4 3 intra 0 x\nedge 4 4 carried 0 x\n"
+edges : edge_texts (codes "edge ") two_variables 2 three_nodes some_edges ≡ codes
+    "edge 2 10 control\nedge 3 2 carried 1 h\nedge 3 4 intra 1 h\nedge 4 3 intra 0 x\nedge 4 4 carried 0 x\n"
 unfolding labelled Rattle.std.specs.Fmt.digits
 edges = refl
 
@@ -77,7 +78,8 @@ unfolding labelled Rattle.std.specs.Fmt.digits
 units = refl
 
 -- what passes over a stage goes forward behind it too
-forward : forward_lines two_variables (plan_of (1 ∷ 2 ∷ 3 ∷ []) (Seq ∷ Seq ∷ Seq ∷ [])) 2 three_nodes (edge_of 2 4 Control ∷ edge_of 3 2 Carried ∷ edge_of 3 4 Intra ∷ edge_of 4 4 Carried ∷ [])
+forward : forward_lines two_variables (plan_of (1 ∷ 2 ∷ 3 ∷ []) (Seq ∷ Seq ∷ Seq ∷ [])) 2 three_nodes (edge_of 2 4 Control ∷ edge_of 3 2 Carried
+    ∷ edge_of 3 4 Intra ∷ edge_of 4 4 Carried ∷ [])
     ≡ codes "forward 1 2 4 control\nforward 2 2 4 control\nforward 2 3 4 intra 1 h\n"
 unfolding labelled Rattle.std.specs.Fmt.digits
 forward = refl
@@ -86,11 +88,14 @@ abbrev two_regions : List (List RegionSite)
 two_regions = (region_site (record { 0 = 2 }) true ∷ []) ∷ (region_site (record { 0 = 5 }) true ∷ region_site (record { 0 = 6 }) false ∷ []) ∷ []
 
 abbrev both_shown : Profile
-both_shown = record { regions = record { sites = count 1 0 ∷ []; flows = [] } ∷ record { sites = count 4 3 ∷ count 3 0 ∷ []; flows = flow 6 5 true 3 ∷ [] } ∷ [] }
+both_shown = record {
+  regions = record { sites = count 1 0 ∷ []; flows = [] }
+      ∷ record { sites = count 4 3 ∷ count 3 0 ∷ []; flows = flow 6 5 true 3 ∷ [] } ∷ [];
+}
 
 -- the second region's own
 shown : shown_lines two_regions 2 (Some both_shown) ≡ codes "runs 5 4 3\nruns 6 3 0\nflow 6 5 carried 3\n"
-unfolding Rattle.dp_profile_text.specs.WrittenText.line_text Rattle.std.specs.Fmt.digits
+unfolding Rattle.dp_profile_text.specs.WrittenText.profile_line_text Rattle.std.specs.Fmt.digits
 shown = refl
 
 nothing_shown : shown_lines two_regions 2 None ≡ []

@@ -1,7 +1,7 @@
 -- The sizes of expanded programs, and the limits on them.
 use Rattle.std.proofs.Common.{◌≡◌, ◌≢◌, refl, ℕ, zero, suc, List, [], ◌∷◌, ◌++◌, map, replicate, Option, Some, None, Result, Ok, Err}
 use Rattle.dp_base.specs.declared.Quantity.TheVariants.{InlinedSize, RegionSites}
-use Rattle.dp_base.specs.Counts.{reported}
+use Rattle.dp_base.specs.Counts.{reported_count}
 use Rattle.dp_tree.specs.declared.Function.{Function}
 use Rattle.dp_tree.specs.declared.Stmt.{Stmt}
 use Rattle.dp_tree.specs.declared.Stmt.TheVariants as stmt
@@ -10,15 +10,17 @@ use Rattle.dp_tree.proofs.Build.{num, set, set_at, say, loop, region, call, func
 use Rattle.dp_inline.specs.declared.fail.InlineFail.{InlineFail}
 use Rattle.dp_inline.specs.declared.fail.InlineFail.TheVariants.{Limit, NoMemory}
 use Rattle.dp_inline.specs.Size.{inlined_size, site_total, region_size}
-use Rattle.dp_inline.specs.InlineAnswer.{Gives, too_large, first_large_region, inline_answer}
+use Rattle.dp_inline.specs.InlineAnswer.{GivesInlined, too_large, first_large_region, inline_answer}
 
 abbrev with_main : List Function → List Stmt → Program
 with_main functions main = with_functions functions (program [] [] [] main)
 
 -- one statement of each form; a call counts its bindings, its function's body and itself
 abbrev forms : List Stmt
-forms = set 1 0 (num 1) ∷ set_at 2 1 (num 1) (num 2) ∷ say 3 (num 3) ∷ stmt.If (record { 0 = 4 }) (num 4) (say 5 (num 5) ∷ []) (say 6 (num 6) ∷ say 7 (num 7) ∷ [])
-    ∷ loop 8 (num 8) (say 9 (num 9) ∷ []) ∷ region 1 10 (num 10) (say 11 (num 11) ∷ say 12 (num 12) ∷ []) ∷ call 1 1 (num 13 ∷ num 14 ∷ num 15 ∷ []) ∷ stmt.Break (record { 0 = 13 }) (num 16) ∷ []
+forms = set 1 0 (num 1) ∷ set_at 2 1 (num 1) (num 2) ∷ say 3 (num 3) ∷ stmt.If (record { 0 = 4 }) (num 4) (say 5 (num 5) ∷ [])
+    (say 6 (num 6) ∷ say 7 (num 7) ∷ [])
+    ∷ loop 8 (num 8) (say 9 (num 9) ∷ []) ∷ region 1 10 (num 10) (say 11 (num 11) ∷ say 12 (num 12) ∷ []) ∷ call 1 1 (num 13 ∷ num 14 ∷ num 15 ∷ [])
+    ∷ stmt.Break (record { 0 = 13 }) (num 16) ∷ []
 
 -- the second function has three parameters and calls the first one, which prints, twice
 abbrev of_each_form : Program
@@ -58,7 +60,7 @@ unfolding tree_opened
 just_too_large = refl
 
 -- a greater count than 1,000,000 is reported as that
-greatest_reported : map reported (8193 ∷ 999999 ∷ 1000000 ∷ 1000001 ∷ []) ≡ 8193 ∷ 999999 ∷ 1000000 ∷ 1000000 ∷ []
+greatest_reported : map reported_count (8193 ∷ 999999 ∷ 1000000 ∷ 1000001 ∷ []) ≡ 8193 ∷ 999999 ∷ 1000000 ∷ 1000000 ∷ []
 greatest_reported = refl
 
 -- function k calls function k - 1 twice, and the first one prints: a call of function k prints 2 ^ k times
@@ -100,8 +102,8 @@ both = refl
 
 -- what an outcome says of the answer, written out
 module _ (expected : Result Program InlineFail) (p : Program) (e : InlineFail) where
-  gives_a_program : Gives expected (Ok p) → expected ≡ Ok p
+  gives_a_program : GivesInlined expected (Ok p) → expected ≡ Ok p
   gives_a_program is = is
 
-  gives_a_refusal : Gives expected (Err e) → e ≢ NoMemory → expected ≡ Err e
+  gives_a_refusal : GivesInlined expected (Err e) → e ≢ NoMemory → expected ≡ Err e
   gives_a_refusal is = is

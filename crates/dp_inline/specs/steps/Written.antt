@@ -53,7 +53,8 @@ with_next_region line first a = record a { tables = with_region line first a.tab
 
 -- the piece with those of these variables that are of the file
 abbrev pub with_globals : Piece → List VarInfo → Piece
-with_globals a xs = record a { tables = record a.tables { vars = a.tables.vars ++ globals_in xs; cells = a.tables.cells + length (start_cells (globals_in xs)) } }
+with_globals a xs = record a
+    { tables = record a.tables { vars = a.tables.vars ++ globals_in xs; cells = a.tables.cells + length (start_cells (globals_in xs)) } }
 
 -- no text and no tables
 abbrev pub blank : Piece

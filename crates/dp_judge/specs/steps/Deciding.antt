@@ -12,8 +12,8 @@ use Rattle.dp_columns.specs.Left.{Left}
 use Rattle.dp_lean_judge.specs.JudgeState.{JudgeEnd, judge_begin}
 unfoldable use Rattle.dp_lean_judge.specs.JudgeFlat.{judge_flat}
 use Rattle.dp_lean_judge.specs.Shown.{ShowsQueues}
-use Rattle.dp_lean_judge.specs.Ready.{IsReady}
-use Rattle.dp_lean_judge.specs.Judged.{Judged}
+use Rattle.dp_lean_judge.specs.Ready.{JudgeIsReady}
+use Rattle.dp_lean_judge.specs.Judged.{JudgingEnds}
 use Rattle.dp_lean_judge.specs.Collecting.{undone}
 use Rattle.dp_lean_judge.specs.declared.collected.Collected.{Collected}
 use Rattle.dp_lean_judge.specs.declared.judge.LeanJudged.{LeanJudged}
@@ -38,9 +38,9 @@ going_by false = Goes
 abbrev pub SeesAs : Ready → List ℤ → List Left → LeanJudged → List ℤ → List Left → Collected → Type 0
 SeesAs ready cells readers answer cells_new readers_new collected =
     (p : Program) (plan : Plan) (code : List LeanOp) (queues : ℕ → List Told) (loads : ℕ → List (List Load)) →
-    IsReady p plan code ready → ShowsQueues p plan readers queues loads →
+    JudgeIsReady p plan code ready → ShowsQueues p plan readers queues loads →
     (n : ℕ) (end : JudgeEnd) → judge_flat p plan code n (judge_begin cells queues loads) ≡ Some end →
-    (tells : Bool) × Judged p plan tells end answer cells_new readers_new collected
+    (tells : Bool) × JudgingEnds p plan tells end answer cells_new readers_new collected
 
 -- What was collected is told as a clean iteration, which leaves this of the fuel, and the body locals read 0.
 pub record Committed (locals : List CellId) (after : ℕ) (closing : Bool) (old new : Bench) (told_old told_new : ToldBatch) : Type 0 where

@@ -10,22 +10,22 @@ use Rattle.dp_judge.specs.declared.verdict.Verdict.{Verdict}
 use Rattle.dp_lean.specs.Queues.{Told}
 use Rattle.dp_lean_code.specs.LeanCode.{lean_code}
 use Rattle.dp_columns.specs.Left.{Left}
-use Rattle.dp_lean_judge.specs.Ready.{IsReady}
+use Rattle.dp_lean_judge.specs.Ready.{JudgeIsReady}
 use Rattle.dp_lean_judge.specs.Shown.{ShowsQueues}
 use Rattle.dp_lean_epoch.specs.Own.{Arrives, steps_at}
-use Rattle.dp_lean_epoch.specs.Coming.{Coming, LoadsComing}
+use Rattle.dp_lean_epoch.specs.Coming.{QueuesBring, LoadsComing}
 use Rattle.dp_lean_epoch.specs.LeanBatch.{steps_among}
-use Rattle.dp_lean_region.specs.LeanEpoch.{LeanEpoch, IsLeanEpoch, HasJudgeLaws, marks_in, begin_in, size_in}
+use Rattle.dp_lean_region.specs.LeanEpoch.{LeanEpoch, IsLeanEpoch, HasJudgeLaws, epoch_marks, begin_in, size_in}
 use Rattle.dp_lean_region.specs.declared.line.JudgeTables.{JudgeTables}
 use Rattle.dp_lean_machine.specs.Held.{held_in}
 use Rattle.dp_lean_machine.specs.declared.batch.StageColumns.{StageColumns}
-use Rattle.dp_judge.specs.Verdicts.{AreTold, Stands, EachGoesOn}
+use Rattle.dp_judge.specs.Verdicts.{AreTold, JudgingStands, EachGoesOn}
 use Rattle.dp_judge.specs.declared.judging.Decision.{Decision}
 use Rattle.dp_judge.specs.declared.judging.Decision.TheVariants.{Goes, Closes, Unclean, NoMemory}
 
 -- The judge's code of the epoch is ready, and the cells of the region's body locals are known.
 pub record JudgesBy (e : LeanEpoch) (tables : JudgeTables) : Type 0 where
-  pub ready : IsReady e.key.program e.key.plan (lean_code e.key.program e.key.plan (last e.key.plan) (marks_in e)) tables.ready.now
+  pub ready : JudgeIsReady e.key.program e.key.plan (lean_code e.key.program e.key.plan (last e.key.plan) (epoch_marks e)) tables.ready.now
   pub locals : tables.locals.now ≡ local_cells e.key.plan.region e.key.program.vars
 
 module _ (e : LeanEpoch) (b : ℕ) where
@@ -34,8 +34,8 @@ module _ (e : LeanEpoch) (b : ℕ) where
     pub epoch : IsLeanEpoch e
     pub laws : HasJudgeLaws e
     pub few : n ≤ size_in e b
-    pub arrive : (i : ℕ) → i < n → Arrives (marks_in e) e.key (length e.key.plan.stages) (begin_in e b + i)
-    pub steps : (i : ℕ) → i < n → steps_among (map held_in stages) i ≡ steps_at (marks_in e) e.key (begin_in e b + i)
+    pub arrive : (i : ℕ) → i < n → Arrives (epoch_marks e) e.key (length e.key.plan.stages) (begin_in e b + i)
+    pub steps : (i : ℕ) → i < n → steps_among (map held_in stages) i ≡ steps_at (epoch_marks e) e.key (begin_in e b + i)
 
   -- the readers have left what the iterations from the i-th on tell, so many of them
   pub record AreComing (i j : ℕ) (readers : List Left) : Type 0 where
@@ -44,14 +44,14 @@ module _ (e : LeanEpoch) (b : ℕ) where
     pub loads : ℕ → List (List Load)
     pub more_loads : ℕ → List (List Load)
     pub shows : ShowsQueues e.key.program e.key.plan readers queues loads
-    pub told : Coming (marks_in e) e.key (length e.key.plan.stages) (begin_in e b + i) j queues more
-    pub loaded : LoadsComing (marks_in e) e.key (begin_in e b + i) j loads more_loads
+    pub told : QueuesBring (epoch_marks e) e.key (length e.key.plan.stages) (begin_in e b + i) j queues more
+    pub loaded : LoadsComing (epoch_marks e) e.key (begin_in e b + i) j loads more_loads
 
   -- The first j iterations of the batch are clean and told, and the epoch goes on behind each.
   pub record CleanTo (j left : ℕ) (cells : List ℤ) (vs : List Verdict) : Type 0 where
     pub few : j ≤ size_in e b
     pub goes : GoesOnTo e.key (begin_in e b + j)
-    pub stands : Stands e (begin_in e b + j) left cells
+    pub stands : JudgingStands e (begin_in e b + j) left cells
     pub told : AreTold e b vs
     pub onward : EachGoesOn vs
     pub count : length vs ≡ j
@@ -64,7 +64,7 @@ module _ (e : LeanEpoch) (b : ℕ) where
   -- the last of those that are clean and told leaves the region
   pub record Closed (left : ℕ) (cells : List ℤ) (vs : List Verdict) : Type 0 where
     pub told : AreTold e b vs
-    pub stands : Stands e (begin_in e b + length vs) left cells
+    pub stands : JudgingStands e (begin_in e b + length vs) left cells
     pub closes : EachGoesOn vs → ⊥
 
   -- behind those that are clean and told is one that is to be executed again

@@ -83,7 +83,8 @@ verdict cells None = None
 verdict cells (Some end) = Some (judged cells end)
 
 abbrev lean_verdict : ℕ → List ℤ → Option (Option (List ℤ × ℤ × ℤ × ℤ × List Told × Bool))
-lean_verdict n cells = verdict cells (lean_judge_from mixed mixed_plan (marks true) n (lean_judging mixed mixed_plan (marks true) cells (queues true) (loads true)))
+lean_verdict n cells =
+    verdict cells (lean_judge_from mixed mixed_plan (marks true) n (lean_judging mixed mixed_plan (marks true) cells (queues true) (loads true)))
 
 -- it prints 1, stores into a[2] and s, and stores no y
 clean : lean_verdict 8 epoch.base ≡ Some (Some (pos 1 ∷ [], pos 1, pos 3, pos 0, [], false))

@@ -22,15 +22,19 @@ marks blocks = marks_of histogram histogram_plan (λ (block : List Stmt). blocks
 
 -- Stage 2 takes the condition and what the block of the sites 3 and 4 stored, and tells its own block.
 second : lean_code histogram histogram_plan 2 (marks true)
-    ≡ Plain (op.ConsumeBranch (record { 0 = 2 }) 12) ∷ Meet (record { 0 = 3 }) ∷ Begin (record { 0 = 5 }) ∷ Plain (op.Load (record { 0 = 5 })) ∷ Plain (op.Push (pos 5)) ∷ Plain (op.Binary Mul)
-    ∷ Plain (op.Push (pos 3)) ∷ Plain (op.Binary Add) ∷ Plain (op.Push (pos 4)) ∷ Plain (op.Binary Rem) ∷ Plain (op.Store (record { 0 = 5 }) (record { 0 = 6 })) ∷ Finish ∷ Plain op.End ∷ []
+    ≡ Plain (op.ConsumeBranch (record { 0 = 2 }) 12) ∷ Meet (record { 0 = 3 }) ∷ Begin (record { 0 = 5 }) ∷ Plain (op.Load (record { 0 = 5 }))
+    ∷ Plain (op.Push (pos 5)) ∷ Plain (op.Binary Mul)
+    ∷ Plain (op.Push (pos 3)) ∷ Plain (op.Binary Add) ∷ Plain (op.Push (pos 4)) ∷ Plain (op.Binary Rem) ∷ Plain (op.Store (record { 0 = 5 }) (record { 0 = 6 }))
+    ∷ Finish ∷ Plain op.End ∷ []
 unfolding tree_opened expr_code stmt_code
 second = refl
 
 -- without blocks it takes x alone, and not i
 second_alone : lean_code histogram histogram_plan 2 (marks false)
-    ≡ Plain (op.ConsumeBranch (record { 0 = 2 }) 10) ∷ Plain (op.Consume (record { 0 = 3 }) (record { 0 = 5 }) 1) ∷ Plain (op.Load (record { 0 = 5 })) ∷ Plain (op.Push (pos 5)) ∷ Plain (op.Binary Mul)
-    ∷ Plain (op.Push (pos 3)) ∷ Plain (op.Binary Add) ∷ Plain (op.Push (pos 4)) ∷ Plain (op.Binary Rem) ∷ Plain (op.Store (record { 0 = 5 }) (record { 0 = 6 })) ∷ Plain op.End ∷ []
+    ≡ Plain (op.ConsumeBranch (record { 0 = 2 }) 10) ∷ Plain (op.Consume (record { 0 = 3 }) (record { 0 = 5 }) 1) ∷ Plain (op.Load (record { 0 = 5 }))
+    ∷ Plain (op.Push (pos 5)) ∷ Plain (op.Binary Mul)
+    ∷ Plain (op.Push (pos 3)) ∷ Plain (op.Binary Add) ∷ Plain (op.Push (pos 4)) ∷ Plain (op.Binary Rem)
+    ∷ Plain (op.Store (record { 0 = 5 }) (record { 0 = 6 })) ∷ Plain op.End ∷ []
 unfolding tree_opened expr_code stmt_code
 second_alone = refl
 

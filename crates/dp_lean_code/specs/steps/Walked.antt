@@ -68,7 +68,8 @@ module _ (p : Program) (plan : Plan) (s : ℕ) (k : Known) where
   -- .. and a loop
   abbrev pub loop_part : SiteId → Expr → (ℕ → List LeanOp) → ℕ → List LeanOp
   loop_part site cond a at =
-      if keeps site || has_ops (a (at + length (test_code p plan s site cond at) + 1)) then tested p plan s site cond (repetition at (branch p plan s site) a) at else []
+      if keeps site || has_ops (a (at + length (test_code p plan s site cond at) + 1)) then tested p plan s site cond
+      (repetition at (branch p plan s site) a) at else []
 
   -- .. that is reached
   abbrev pub reached_loop : SiteId → Expr → (ℕ → List LeanOp) → ℕ → List LeanOp
@@ -83,7 +84,8 @@ module _ (p : Program) (plan : Plan) (s : ℕ) (k : Known) where
   abbrev pub block_part : SiteId → List Stmt → ℕ → List LeanOp
   block_part site block at =
       if reaches site
-      then (if stage_of p plan site.0 == s then Begin site ∷ (silent_code p plan s block (at + 1) ++ Finish ∷ []) else if stored_inside block then Meet site ∷ [] else [])
+      then (if stage_of p plan site.0 == s then Begin site ∷ (silent_code p plan s block (at + 1) ++ Finish ∷ []) else if stored_inside block
+      then Meet site ∷ [] else [])
       else []
 
   -- what stands at the head of a row: a statement outside of blocks, or a block of so many statements; `onward` leaves out so many

@@ -29,7 +29,8 @@ small = program
     (site 3 Assign 0 ∷ site 5 While 1 ∷ site 6 Assign 1 ∷ site 7 Assign 1 ∷ site 8 Assign 1 ∷ site 9 Assign 1 ∷ [])
     (one_region 5 2 6)
     (set 1 1 (num 0) ∷ region 1 2 (bin op.Lt (var 1) tree.InputLen)
-    (set 3 2 (tree.Input (var 1)) ∷ set 4 1 (bin op.Add (var 1) (num 1)) ∷ set 5 3 (bin op.Add (var 2) (var 0)) ∷ set 6 0 (bin op.Add (var 0) (var 3)) ∷ []) ∷ [])
+    (set 3 2 (tree.Input (var 1)) ∷ set 4 1 (bin op.Add (var 1) (num 1)) ∷ set 5 3 (bin op.Add (var 2) (var 0))
+    ∷ set 6 0 (bin op.Add (var 0) (var 3)) ∷ []) ∷ [])
 
 abbrev pub small_plan : Plan
 small_plan = plan 64 (Seq ∷ Par ∷ Seq ∷ []) (1 ∷ 1 ∷ 1 ∷ 2 ∷ 3 ∷ []) []

@@ -58,7 +58,8 @@ blocks_are = refl
 
 abbrev queues : List Told → ℕ → List Told
 queues inner y = if y == 2 then Did 0 (pos 1) ∷ [] else if y == 3 then Did 3 (pos 0) ∷ [] else if y == 4 then Did 0 (pos 1) ∷ Did 0 (pos 0) ∷ []
-    else if y == 5 then inner else if y == 6 then Did 1 (pos 3) ∷ [] else if y == 7 then Did 0 (pos 2) ∷ [] else if y == 8 then Did 2 (pos 2) ∷ Did 2 (pos 9) ∷ [] else []
+    else if y == 5 then inner else if y == 6 then Did 1 (pos 3) ∷ [] else if y == 7 then Did 0 (pos 2) ∷ [] else if y == 8 then Did 2 (pos 2)
+    ∷ Did 2 (pos 9) ∷ [] else []
 
 -- j and the step, as site 5 loaded them
 abbrev loads : ℕ → ℕ → List (List Load)
@@ -105,15 +106,18 @@ outside = refl
 
 -- blocks are told by their net stores
 abbrev block_queues : ℕ → List Told
-block_queues y = if y == 2 then Did 0 (pos 1) ∷ [] else if y == 3 then DidBlock (Stored 3 (pos 0) ∷ []) ∷ [] else if y == 4 then Did 0 (pos 1) ∷ Did 0 (pos 0) ∷ []
-    else if y == 5 then Did 3 (pos 2) ∷ [] else if y == 6 then DidBlock (Stored 1 (pos 3) ∷ Stored 0 (pos 2) ∷ []) ∷ [] else if y == 8 then DidBlock (Stored 2 (pos 2) ∷ []) ∷ [] else []
+block_queues y = if y == 2 then Did 0 (pos 1) ∷ [] else if y == 3 then DidBlock (Stored 3 (pos 0) ∷ []) ∷ [] else if y == 4 then Did 0 (pos 1)
+    ∷ Did 0 (pos 0) ∷ []
+    else if y == 5 then Did 3 (pos 2) ∷ [] else if y == 6 then DidBlock (Stored 1 (pos 3) ∷ Stored 0 (pos 2) ∷ []) ∷ [] else if y == 8
+    then DidBlock (Stored 2 (pos 2) ∷ []) ∷ [] else []
 
 by_blocks : ran blocks base block_queues (loads 2) 9 ≡ Some (Some (pos 2 ∷ pos 3 ∷ pos 2 ∷ pos 2 ∷ [], gathered, false, []))
 unfolding tree_opened expr_code stmt_code judge_flat
 by_blocks = refl
 
 -- at a 0 of the region's condition it is left
-closed : ran code base (λ y. if y == 2 then Did 0 (pos 0) ∷ [] else []) (λ y. []) 2 ≡ Some (Some (base, record { stores = []; stages = []; prints = [] }, true, []))
+closed : ran code base (λ y. if y == 2 then Did 0 (pos 0) ∷ [] else []) (λ y. []) 2 ≡ Some
+    (Some (base, record { stores = []; stages = []; prints = [] }, true, []))
 unfolding tree_opened expr_code stmt_code judge_flat
 closed = refl
 
@@ -139,7 +143,8 @@ block_entry : entry_of stale_step step_plan blocks 6 (Meet (site 6)) ≡ Block (
 unfolding tree_opened expr_code stmt_code landing
 block_entry = refl
 
-array_entry : entry_of stale_step step_plan code 7 (Plain (op.Consume (site 6) (cell 1) 3)) ≡ Element (record { stage = 2; reader = 1; column = 4; checked = false; opens = false }) (cell 1) 3 7
+array_entry : entry_of stale_step step_plan code 7 (Plain (op.Consume (site 6) (cell 1) 3)) ≡ Element
+    (record { stage = 2; reader = 1; column = 4; checked = false; opens = false }) (cell 1) 3 7
 unfolding tree_opened expr_code stmt_code landing
 array_entry = refl
 

@@ -39,6 +39,7 @@ first_with_blocks = refl
 abbrev two_stages : Plan
 two_stages = unchecked 5 (plan 4096 (Seq ∷ Seq ∷ []) (1 ∷ 1 ∷ 1 ∷ 1 ∷ 2 ∷ []) [])
 
-not_needed : region_kinds histogram two_stages (marks_of histogram two_stages (λ (block : List Stmt). false)) 1 ≡ Value 0 ∷ Nothing ∷ Value 4 ∷ Value 6 ∷ Nothing ∷ []
+not_needed : region_kinds histogram two_stages (marks_of histogram two_stages (λ (block : List Stmt). false)) 1 ≡ Value 0 ∷ Nothing ∷ Value 4
+    ∷ Value 6 ∷ Nothing ∷ []
 unfolding tree_opened formed_at
 not_needed = refl

@@ -10,7 +10,7 @@ use Rattle.dp_tree.specs.Statements.{listed}
 use Rattle.dp_tree.specs.Step.{site_of}
 use Rattle.dp_plan.specs.declared.Plan.{Plan}
 use Rattle.dp_plan.specs.Access.{accesses, stage_of, region_statement}
-use Rattle.dp_plan.specs.Written.{site_in}
+use Rattle.dp_plan.specs.Written.{access_site}
 use Rattle.dp_semantics.specs.Project.{assumed_in}
 use Rattle.dp_lean.specs.Needed.{is_judge}
 use Rattle.dp_lean_code.specs.declared.tables.LeanTables.{LeanTables}
@@ -50,7 +50,7 @@ module _ (p : Program) (plan : Plan) (s : ℕ) (k : Known) where
 
   -- .. and then all its sites are read
   abbrev pub block_read : SiteId → List Stmt → List ℕ
-  block_read site block = if keeps_block site block then map site_in (flat_map accesses block) else []
+  block_read site block = if keeps_block site block then map access_site (flat_map accesses block) else []
 
   -- the head of a row: a statement outside of blocks, or a block of so many statements; `onward` leaves out so many
   abbrev pub head_read : ℕ → Stmt → List Stmt → List ℕ → (ℕ → List ℕ) → List ℕ

@@ -14,7 +14,7 @@ use Rattle.dp_lean_code.specs.LeanCode.{lean_code}
 use Rattle.dp_lean_turn.specs.declared.Kinds.{Kinds}
 use Rattle.dp_lean_turn.specs.Standing.{AreHidden}
 use Rattle.dp_lean_turn.specs.Standing as standing
-use Rattle.dp_lean_judge.specs.Ready.{AllKept, IsReady}
+use Rattle.dp_lean_judge.specs.Ready.{AllKept, JudgeIsReady}
 use Rattle.dp_lean_region.specs.Region.{IsCap, IsFitting, plan_kinds}
 use Rattle.dp_lean_turn.specs.Made.{AreTurnTables}
 use Rattle.dp_lean_region.specs.declared.line.ReadyStage.{ReadyStage}
@@ -40,7 +40,7 @@ module _ (p : Program) (plan : Plan) where
 
   -- the judge's code, which can read what is kept, and how many iterations go together
   pub record IsJudgeMade (j : JudgeMade) : Type 0 where
-    pub ready : IsReady p plan (lean_code p plan (last plan) (paying_marks p plan)) j.ready
+    pub ready : JudgeIsReady p plan (lean_code p plan (last plan) (paying_marks p plan)) j.ready
     pub kept : (readers : List Left) → all_kinds readers ≡ plan_kinds p plan → AllKept readers j.ready.entries
     pub cap : IsCap p plan j.cap
 
@@ -62,6 +62,6 @@ module _ (p : Program) (plan : Plan) where
     pub own : r.frame.kinds.own.now ≡ get_or kinds at []
     pub read : r.frame.kinds.read.now ≡ take at kinds
     pub first : r.frame.first ≡ first_site p plan
-    pub ready : standing.IsReady r.frame r.ready
+    pub ready : standing.TurnIsReady r.frame r.ready
     pub hidden : AreHidden r.frame (paying_marks p plan)
     pub body : r.locals.now ≡ locals

@@ -45,7 +45,12 @@ sequential : false ≡ true → ⊥
 sequential e = absurd (cc e)
 
 edges_outside : AreStages ((0, 1) ∷ (2, 3) ∷ []) 4 true 0 (seq 1 ∷ par 2 ∷ seq 1 ∷ [])
-edges_outside = (omega arith, λ (e : false ≡ true). absurd (sequential e), (omega arith, λ (e : true ≡ true). (refl, clear), (omega arith, λ (e : false ≡ true). absurd (sequential e), refl)))
+edges_outside = (
+  omega arith,
+  λ (e : false ≡ true). absurd (sequential
+      e),
+  (omega arith, λ (e : true ≡ true). (refl, clear), (omega arith, λ (e : false ≡ true). absurd (sequential e), refl)),
+)
 
 edge_inside : AreStages ((2, 1) ∷ []) 4 true 0 (seq 1 ∷ par 2 ∷ seq 1 ∷ []) → ⊥
 edge_inside stages = (stages.2.1 refl).1 0 (0, 0) (omega arith) ((omega arith, omega arith), (omega arith, omega arith))

@@ -26,7 +26,8 @@ pub record Best (weights : List ℕ) (carried : List (ℕ × ℕ)) (workers boun
   pub stages : AreStages carried (length weights) closed begin cut
   pub few : length cut ≤ most
   pub cheap : bottleneck weights workers begin cut ≤ bound
-  pub first : (other : List Stretch) → AreStages carried (length weights) closed begin other → length other ≤ most → bottleneck weights workers begin other ≤ bound → NoLater cut other
+  pub first : (other : List Stretch) → AreStages carried (length weights) closed begin other → length other ≤ most →
+      bottleneck weights workers begin other ≤ bound → NoLater cut other
 
 -- what the weights, the limits and the workers are like
 pub record AreCosts (weights limits : List ℕ) (workers : ℕ) : Type 0 where
@@ -57,4 +58,5 @@ pub record HasFirst (weights limits : List ℕ) (workers bound : ℕ) (after_seq
 -- The stage is a good beginning: with the best of what follows it makes the best, and what follows fits.
 pub record IsBeginning (weights : List ℕ) (carried : List (ℕ × ℕ)) (workers bound left : ℕ) (closed : Bool) (begin : ℕ) (s : Stretch) : Type 0 where
   pub rest : Fits weights carried workers bound left s.replicated (begin + s.units)
-  pub best : (cut : List Stretch) → Best weights carried workers bound left s.replicated (begin + s.units) cut → Best weights carried workers bound (left + 1) closed begin (s ∷ cut)
+  pub best : (cut : List Stretch) → Best weights carried workers bound left s.replicated (begin + s.units) cut →
+      Best weights carried workers bound (left + 1) closed begin (s ∷ cut)

@@ -14,7 +14,9 @@ pub record Fits (weights : List ℕ) (carried : List (ℕ × ℕ)) (workers boun
 -- at each place from `from` on the list tells how many stages are needed: a number that a plan may have is exact
 abbrev pub TellsNeed : List ℕ → List (ℕ × ℕ) → ℕ → ℕ → Bool → ℕ → List ℕ → Type 0
 TellsNeed weights carried workers bound closed from needs =
-    (begin most : ℕ) → from ≤ begin → begin ≤ length weights → most ≤ STAGES → (slice_index needs begin ≤ most → Fits weights carried workers bound most closed begin) × (Fits weights carried workers bound most closed begin → slice_index needs begin ≤ most)
+    (begin most : ℕ) → from ≤ begin → begin ≤ length weights → most ≤ STAGES →
+    (slice_index needs begin ≤ most → Fits weights carried workers bound most closed begin) × (Fits weights carried workers bound most closed begin →
+    slice_index needs begin ≤ most)
 
 -- so far no carried edge is inside: the units from `begin` up to `end` have none exactly where `end` is at most the limit
 abbrev pub IsLimit : List (ℕ × ℕ) → ℕ → ℕ → ℕ → Type 0

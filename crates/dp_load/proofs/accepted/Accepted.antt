@@ -24,7 +24,8 @@ pub kept : (q p : Program) (v : Result Program InlineFail) → sized q v ≡ Ok 
 kept q p (Ok x) e = cc
 kept q p (Err fail) e = absurd (cc)
 
-answer_checked : (raw : RawProgram) (p : Program) (v : Result Program CheckFail) → list_all has_length raw.items ≡ true → breaks_fit raw ≡ true → check_answer raw ≡ v → checked_read v ≡ Ok p → IsChecked p
+answer_checked : (raw : RawProgram) (p : Program) (v : Result Program CheckFail) → list_all has_length raw.items ≡ true → breaks_fit raw ≡ true →
+    check_answer raw ≡ v → checked_read v ≡ Ok p → IsChecked p
 answer_checked raw p (Ok q) h exits is e = subst IsChecked (kept q p (inline_answer q) e) (checked raw q h exits is)
 answer_checked raw p (Err fail) h exits is e = absurd (cc)
 

@@ -1,12 +1,13 @@
 -- What is run for an accepted text stores at home, and its numbers and those of an input fit 64 bits.
-use Rattle.std.proofs.Common.{◌≡◌, refl, sym, ap, ◌∙◌, subst, ℕ, ◌+◌, ◌==◌, Bool, true, false, ◌&&◌, if◌then◌else◌, nat_lt, nat_le, min, List, [], ◌∷◌, length, ℤ, pos, neg_ℤ, Option, Some, None, Result, Ok, Err}
+use Rattle.std.proofs.Common.{◌≡◌, refl, sym, ap, ◌∙◌, subst, ℕ, ◌+◌, ◌==◌, Bool, true, false, ◌&&◌, if◌then◌else◌, nat_lt, nat_le, min, List, [], ◌∷◌, length}
+use Rattle.std.proofs.Common.{ℤ, pos, neg_ℤ, Option, Some, None, Result, Ok, Err}
 use Rattle.dp_base.specs.Arithmetic.{fits}
 use Rattle.dp_base.specs.declared.Quantity.TheVariants.{InputBytes}
 use Rattle.dp_text.specs.Each.{Each}
-use Rattle.dp_edge.specs.Digits.{are_digits, value_of}
+use Rattle.dp_edge.specs.Digits.{are_digits, digits_worth}
 use Rattle.dp_edge.specs.declared.input.InputFail.{InputFail}
 use Rattle.dp_edge.specs.declared.input.InputFail.TheVariants.{TooMany}
-use Rattle.dp_edge.specs.Input.{signed_number, number_of, number_before, numbers_at, numbers_of, words}
+use Rattle.dp_edge.specs.Input.{signed_number, number_written, number_before, numbers_at, numbers_of, input_words}
 use Rattle.dp_tree.specs.declared.Program.{Program}
 use Rattle.dp_tree.specs.declared.raw.RawProgram.{RawProgram}
 use Rattle.dp_parse.specs.Parses.{ParsesAs}
@@ -40,7 +41,8 @@ given_is raw p given = by (first_offence (names_of raw)) (too_many_functions raw
     by None None None h = cc h
     by _ _ _ h = absurd (cc h)
 
-tree_fits : (text : List ℕ) (raw : RawProgram) (p : Program) (v : Result Program CheckFail) → ParsesAs text raw → check_answer raw ≡ v → checked_read v ≡ Ok p → all_numbers_fit p ≡ true
+tree_fits : (text : List ℕ) (raw : RawProgram) (p : Program) (v : Result Program CheckFail) → ParsesAs text raw → check_answer raw ≡ v → checked_read v ≡ Ok p →
+    all_numbers_fit p ≡ true
 tree_fits text raw p (Ok q) parses is e =
     let small = small_texts text raw parses in
     ap all_numbers_fit (sym (given_is raw q is ∙ kept q p (inline_answer q) e)) ∙ resolved_fits raw small.0 small.1
@@ -71,14 +73,14 @@ abbrev AllFit : List ℤ → Type 0
 AllFit numbers = Each (λ (z : ℤ). fits z ≡ true) numbers
 
 signed_fits : (sign : ℕ → ℤ) (digits : List ℕ) (z : ℤ) → signed_number sign digits ≡ Some z → fits z ≡ true
-signed_fits sign digits z e = by (are_digits digits) (fits (sign (value_of digits))) refl e
+signed_fits sign digits z e = by (are_digits digits) (fits (sign (digits_worth digits))) refl e
   where
-    by : (a b : Bool) → fits (sign (value_of digits)) ≡ b → (if a && b then Some (sign (value_of digits)) else None) ≡ Some z → fits z ≡ true
-    by true true is e = (let same : sign (value_of digits) ≡ z = cc e in ap fits (sym same) ∙ is)
+    by : (a b : Bool) → fits (sign (digits_worth digits)) ≡ b → (if a && b then Some (sign (digits_worth digits)) else None) ≡ Some z → fits z ≡ true
+    by true true is e = (let same : sign (digits_worth digits) ≡ z = cc e in ap fits (sym same) ∙ is)
     by true false is e = absurd (cc e)
     by false b is e = absurd (cc e)
 
-number_fits : (word : List ℕ) (z : ℤ) → number_of word ≡ Some z → fits z ≡ true
+number_fits : (word : List ℕ) (z : ℤ) → number_written word ≡ Some z → fits z ≡ true
 number_fits [] z e = absurd (cc e)
 number_fits (byte ∷ rest) z e = by (byte == 45) e
   where
@@ -87,21 +89,22 @@ number_fits (byte ∷ rest) z e = by (byte == 45) e
     by false e = signed_fits pos (byte ∷ rest) z e
 
 -- a number for each word
-each_fits : (words : List (List ℕ)) (place : ℕ) (numbers : List ℤ) → numbers_at place words ≡ Ok numbers → AllFit numbers
+each_fits : (input_words : List (List ℕ)) (place : ℕ) (numbers : List ℤ) → numbers_at place input_words ≡ Ok numbers → AllFit numbers
 each_fits [] place numbers e = let none : [] ≡ numbers = cc e in subst AllFit none tt
-each_fits (word ∷ words) place numbers e = by (number_of word) refl (numbers_at (place + 1) words) refl e (each_fits words (place + 1))
+each_fits (word ∷ input_words) place numbers e = by (number_written word) refl (numbers_at (place + 1) input_words) refl e (each_fits input_words (place + 1))
   where
-    by : (n : Option ℤ) → number_of word ≡ n → (later : Result (List ℤ) InputFail) → numbers_at (place + 1) words ≡ later → number_before n place later ≡ Ok numbers →
-        ((rest : List ℤ) → numbers_at (place + 1) words ≡ Ok rest → AllFit rest) → AllFit numbers
+    by : (n : Option ℤ) → number_written word ≡ n → (later : Result (List ℤ) InputFail) → numbers_at (place + 1) input_words ≡ later →
+        number_before n place later ≡ Ok numbers →
+        ((rest : List ℤ) → numbers_at (place + 1) input_words ≡ Ok rest → AllFit rest) → AllFit numbers
     by None one later is e next = absurd (cc e)
     by (Some z) one (Ok rest) is e next = (let same : z ∷ rest ≡ numbers = cc e in subst AllFit same (number_fits word z one, next rest is))
     by (Some z) one (Err fail) is e next = absurd (cc e)
 
 all_fit : (text : List ℕ) (numbers : List ℤ) → numbers_of text ≡ Ok numbers → AllFit numbers
-all_fit text numbers e = by (nat_le (length (words text)) 65536) e
+all_fit text numbers e = by (nat_le (length (input_words text)) 65536) e
   where
-    by : (b : Bool) → (if b then numbers_at 1 (words text) else Err (TooMany (min (length (words text)) 1000000))) ≡ Ok numbers → AllFit numbers
-    by true e = each_fits (words text) 1 numbers e
+    by : (b : Bool) → (if b then numbers_at 1 (input_words text) else Err (TooMany (min (length (input_words text)) 1000000))) ≡ Ok numbers → AllFit numbers
+    by true e = each_fits (input_words text) 1 numbers e
     by false e = absurd (cc e)
 
 pub numbers_fit_in : (text : List ℕ) → ReadNumbersFit text
@@ -115,7 +118,8 @@ numbers_fit_in text numbers e = by (nat_lt 2097152 (length text)) e
     by true e = absurd (cc e)
     by false e = read (numbers_of text) refl e
 
-read_input : {contents : Contents} {name : Option (List ℕ)} {o : Result (List ℤ) Refusal} (numbers : List ℤ) → Input contents name o → o ≡ Ok numbers → AllFit numbers
+read_input : {contents : Contents} {name : Option (List ℕ)} {o : Result (List ℤ) Refusal} (numbers : List ℤ) → Input contents name o →
+    o ≡ Ok numbers → AllFit numbers
 read_input numbers Unnamed e = let none : [] ≡ numbers = cc e in subst AllFit none tt
 read_input numbers (Named name read r) e = numbers_fit_in r.text numbers (sym r.reads ∙ e)
 

@@ -28,7 +28,8 @@ unfolding opened
 unbroken_hidden [] = refl
 unbroken_hidden (x ∷ xs) = ap (λ b. is_unbroken x && b) (unbroken_hidden xs)
 
-unbroken-If : (line : ℕ) (e : RawExpr) (a b : List RawStmt) → list_all is_unbroken a ≡ true → list_all is_unbroken b ≡ true → is_unbroken (tree.If line e a b) ≡ true
+unbroken-If : (line : ℕ) (e : RawExpr) (a b : List RawStmt) → list_all is_unbroken a ≡ true → list_all is_unbroken b ≡ true →
+    is_unbroken (tree.If line e a b) ≡ true
 unfolding opened
 unbroken-If line e a b h k = and_from _ _ (unbroken_hidden a ∙ h) (unbroken_hidden b ∙ k)
 
@@ -36,7 +37,8 @@ unbroken-While : (line : ℕ) (marked : Bool) (e : RawExpr) (a : List RawStmt) �
 unfolding opened
 unbroken-While line marked e a h = unbroken_hidden a ∙ h
 
-unbroken-For : (line : ℕ) (marked : Bool) (first : List RawStmt) (e : RawExpr) (step a : List RawStmt) → list_all is_unbroken first ≡ true → list_all is_unbroken a ≡ true → list_all is_unbroken step ≡ true → is_unbroken (tree.For line marked first e step a) ≡ true
+unbroken-For : (line : ℕ) (marked : Bool) (first : List RawStmt) (e : RawExpr) (step a : List RawStmt) → list_all is_unbroken first ≡ true →
+    list_all is_unbroken a ≡ true → list_all is_unbroken step ≡ true → is_unbroken (tree.For line marked first e step a) ≡ true
 unfolding opened
 unbroken-For line marked first e step a h k l = and_from _ _ (unbroken_hidden first ∙ h) (and_from _ _ (unbroken_hidden a ∙ k) (unbroken_hidden step ∙ l))
 
@@ -66,7 +68,8 @@ mutual
   statement (form.call a b c d e) = refl
   statement (form.print a b c) = refl
   statement (form.loop {word = word} {e = e} {body = body} a c b) = unbroken-While word.line false e body (block b)
-  statement (form.for_loop {word = word} {first = f} {step = g} {e = e} {body = body} a h b) = unbroken-For word.line false (f ∷ []) e (g ∷ []) body (one f (head_first h)) (block b) (one g (head_step h))
+  statement (form.for_loop {word = word} {first = f} {step = g} {e = e} {body = body} a h b) =
+      unbroken-For word.line false (f ∷ []) e (g ∷ []) body (one f (head_first h)) (block b) (one g (head_step h))
   statement (form.choice c) = choice c
 
   choice : {from to : List Lexeme} {s : RawStmt} → DerivesChoice from to s → is_unbroken s ≡ true
@@ -97,7 +100,8 @@ top_statement (form.store a b c d e f g) h = at_top _ _ (rolls-Store _ _ _) h
 top_statement (form.call a b c d e) h = at_top _ _ (rolls-Call _ _) h
 top_statement (form.print a b c) h = at_top _ _ (rolls-Print _ _) h
 top_statement (form.loop {word = word} {e = e} {body = body} a c b) h = at_top _ _ (rolls-While word.line false e body) h
-top_statement (form.for_loop {word = word} {first = f} {step = g} {e = e} {body = body} a k b) h = at_top _ _ (rolls-For word.line false (f ∷ []) e (g ∷ []) body) h
+top_statement (form.for_loop {word = word} {first = f} {step = g} {e = e} {body = body} a k b) h =
+    at_top _ _ (rolls-For word.line false (f ∷ []) e (g ∷ []) body) h
 top_statement (form.choice c) h = top_choice c h
 
 -- in a region's body
@@ -127,10 +131,13 @@ loop_body (inner.loop a b c) = inside b
 tops : {from to : List Lexeme} {body : List RawStmt} → DerivesTops from to body → list_all breaks_fit_at_top body ≡ true
 tops grammar.none = refl
 tops (grammar.statement {s = s} {rest = rest} a b) = and_from (breaks_fit_at_top s) (list_all breaks_fit_at_top rest) (top_statement a (statement a)) (tops b)
-tops (grammar.region {word = word} {e = e} {body = body} {rest = rest} a b c d x) = and_from (breaks_fit_at_top (tree.While word.line true e body)) (list_all breaks_fit_at_top rest) (at_top _ _ (rolls-While word.line true e body) (loop_body d)) (tops x)
+tops (grammar.region {word = word} {e = e} {body = body} {rest = rest} a b c d x) = and_from (breaks_fit_at_top (tree.While word.line true e body))
+    (list_all breaks_fit_at_top rest) (at_top _ _ (rolls-While word.line true e body) (loop_body d)) (tops x)
 tops (grammar.for_region {word = word} {first = f} {step = g} {e = e} {body = body} {rest = rest} a b c d x) =
-    and_from (breaks_fit_at_top (tree.For word.line true (f ∷ []) e (g ∷ []) body)) (list_all breaks_fit_at_top rest) (at_top _ _ (rolls-For word.line true (f ∷ []) e (g ∷ []) body)
-    (and_from (list_all is_unbroken (f ∷ [])) (list_all may_leave body && list_all is_unbroken (g ∷ [])) (one f (head_first c)) (and_from (list_all may_leave body) (list_all is_unbroken (g ∷ [])) (loop_body d) (one g (head_step c))))) (tops x)
+    and_from (breaks_fit_at_top (tree.For word.line true (f ∷ []) e (g ∷ []) body)) (list_all breaks_fit_at_top rest)
+    (at_top _ _ (rolls-For word.line true (f ∷ []) e (g ∷ []) body)
+    (and_from (list_all is_unbroken (f ∷ [])) (list_all may_leave body && list_all is_unbroken (g ∷ [])) (one f (head_first c))
+    (and_from (list_all may_leave body) (list_all is_unbroken (g ∷ [])) (loop_body d) (one g (head_step c))))) (tops x)
 
 main_tops : {from to : List Lexeme} {body : List RawStmt} → DerivesMain from to body → list_all breaks_fit_at_top body ≡ true
 main_tops (grammar.main a b c d e t r f) = tops t

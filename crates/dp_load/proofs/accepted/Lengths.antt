@@ -22,7 +22,8 @@ item_length (grammar.function a b c d e f) = refl
 
 items_lengths : {from to : List Lexeme} {items : List RawItem} → DerivesItems from to items → list_all has_length items ≡ true
 items_lengths grammar.none = refl
-items_lengths (grammar.more {i = item} {rest = rest} first others) = and_from (has_length item) (list_all has_length rest) (item_length first) (items_lengths others)
+items_lengths (grammar.more {i = item} {rest = rest} first others) =
+    and_from (has_length item) (list_all has_length rest) (item_length first) (items_lengths others)
 
 pub lengths : (text : List ℕ) (raw : RawProgram) → ParsesAs text raw → list_all has_length raw.items ≡ true
 lengths text raw h = items_lengths h.derives.items

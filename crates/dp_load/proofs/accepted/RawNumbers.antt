@@ -20,7 +20,7 @@ use Rattle.dp_tree.specs.declared.raw.RawProgram.{RawProgram}
 use Rattle.dp_parse.specs.declared.level.Level.{Level}
 use Rattle.dp_parse.specs.declared.level.Join.{Join}
 use Rattle.dp_parse.specs.declared.level.Join.TheVariants as join
-use Rattle.dp_parse.specs.Levels.{joined}
+use Rattle.dp_parse.specs.Levels.{joined_trees}
 use Rattle.dp_parse.specs.Expressions.{DerivesExpr, DerivesList}
 use Rattle.dp_parse.specs.Expressions as expr
 use Rattle.dp_parse.specs.Statements.{DerivesArguments, DerivesCondition, DerivesStatement, DerivesChoice, DerivesBlock, DerivesStatements}
@@ -37,7 +37,8 @@ use Rattle.dp_check.proofs.PlaceLemmas.{opened}
 -- what opens where an expression with names is made
 unfoldable opened_expression : Unit {0}
 unfolding
-    Rattle.dp_tree.specs.declared.raw.RawExpr.TheBlock.shape-the_row-RawExpr-0 Rattle.dp_tree.specs.declared.raw.RawExpr.TheBlock.hidden-the_row-RawExpr-0 denote.Hole.Carrier.hidden
+    Rattle.dp_tree.specs.declared.raw.RawExpr.TheBlock.shape-the_row-RawExpr-0 Rattle.dp_tree.specs.declared.raw.RawExpr.TheBlock.hidden-the_row-RawExpr-0
+    denote.Hole.Carrier.hidden
 opened_expression = tt
 
 -- the numbers of the expression fit
@@ -95,10 +96,12 @@ small-While : (line : ℕ) (marked : Bool) (e : RawExpr) (a : List RawStmt) → 
 unfolding opened
 small-While line marked e a = ap (λ u. expr_small e && u) (small_hidden a)
 
-small-For : (line : ℕ) (marked : Bool) (first : List RawStmt) (e : RawExpr) (step a : List RawStmt) → small (tree.For line marked first e step a) ≡ (expr_small e && (small_all first && (small_all a && small_all step)))
+small-For : (line : ℕ) (marked : Bool) (first : List RawStmt) (e : RawExpr) (step a : List RawStmt) →
+    small (tree.For line marked first e step a) ≡ (expr_small e && (small_all first && (small_all a && small_all step)))
 unfolding opened
 small-For line marked first e step a =
-    ap (λ u. expr_small e && (u && (hidden_small a && hidden_small step))) (small_hidden first) ∙ ap (λ u. expr_small e && (small_all first && (u && hidden_small step))) (small_hidden a)
+    ap (λ u. expr_small e && (u && (hidden_small a && hidden_small step))) (small_hidden first)
+    ∙ ap (λ u. expr_small e && (small_all first && (u && hidden_small step))) (small_hidden a)
     ∙ ap (λ u. expr_small e && (small_all first && (small_all a && u))) (small_hidden step)
 
 -- those of a loop by its form
@@ -124,7 +127,7 @@ negative : (n : ℕ) → n ≤ 9223372036854775807 → fits (neg_ℤ (pos n)) �
 negative zero few = refl
 negative (suc n) few = let less : n < 9223372036854775808 = omega (arith, few) in lt-ltb n 9223372036854775808 less
 
-joined_small : (j : Join) (a b : RawExpr) → expr_small a ≡ true → expr_small b ≡ true → expr_small (joined j a b) ≡ true
+joined_small : (j : Join) (a b : RawExpr) → expr_small a ≡ true → expr_small b ≡ true → expr_small (joined_trees j a b) ≡ true
 unfolding opened_expression
 joined_small join.Or a b h k = and_from (expr_small a) (expr_small b) h k
 joined_small join.And a b h k = and_from (expr_small a) (expr_small b) h k
@@ -170,12 +173,15 @@ one : (s : RawStmt) → small s ≡ true → small_all (s ∷ []) ≡ true
 one s h = and_from (small s) true h refl
 
 -- a loop with a head, by the numbers of its body
-headed : {from to : List Lexeme} {f step : RawStmt} {e : RawExpr} → DerivesHead from to f e step → (line : ℕ) (marked : Bool) (body : List RawStmt) → small_all body ≡ true → small (tree.For line marked (f ∷ []) e (step ∷ []) body) ≡ true
+headed : {from to : List Lexeme} {f step : RawStmt} {e : RawExpr} → DerivesHead from to f e step → (line : ℕ) (marked : Bool) (body : List RawStmt) →
+    small_all body ≡ true → small (tree.For line marked (f ∷ []) e (step ∷ []) body) ≡ true
 headed (heads.head {first = f} {step = step} {e = e} a x b d c y g) line marked body h =
     small-For line marked (f ∷ []) e (step ∷ []) body ∙ and_from (expr_small e) (small_all (f ∷ []) && (small_all body && small_all (step ∷ []))) (expression d)
-    (and_from (small_all (f ∷ [])) (small_all body && small_all (step ∷ [])) (one f (first x)) (and_from (small_all body) (small_all (step ∷ [])) h (one step (simple y))))
+    (and_from (small_all (f ∷ [])) (small_all body && small_all (step ∷ [])) (one f (first x)) (and_from (small_all body) (small_all (step ∷ [])) h
+    (one step (simple y))))
 
-looped : (line : ℕ) (marked : Bool) (e : RawExpr) (body : List RawStmt) → expr_small e ≡ true → small_all body ≡ true → small (tree.While line marked e body) ≡ true
+looped : (line : ℕ) (marked : Bool) (e : RawExpr) (body : List RawStmt) → expr_small e ≡ true → small_all body ≡ true →
+    small (tree.While line marked e body) ≡ true
 looped line marked e body h k = small-While line marked e body ∙ and_from (expr_small e) (small_all body) h k
 
 chosen : (line : ℕ) (e : RawExpr) (a b : List RawStmt) → expr_small e ≡ true → small_all a ≡ true → small_all b ≡ true → small (tree.If line e a b) ≡ true
@@ -219,8 +225,10 @@ loop_body (inner.loop a b c) = inside b
 tops : {from to : List Lexeme} {body : List RawStmt} → DerivesTops from to body → small_all body ≡ true
 tops grammar.none = refl
 tops (grammar.statement {s = s} {rest = rest} a b) = and_from (small s) (small_all rest) (statement a) (tops b)
-tops (grammar.region {word = word} {e = e} {body = body} {rest = rest} a b c d x) = and_from (small (tree.While word.line true e body)) (small_all rest) (looped word.line true e body (condition c) (loop_body d)) (tops x)
-tops (grammar.for_region {word = word} {first = f} {step = g} {e = e} {body = body} {rest = rest} a b c d x) = and_from (small (tree.For word.line true (f ∷ []) e (g ∷ []) body)) (small_all rest) (headed c word.line true body (loop_body d)) (tops x)
+tops (grammar.region {word = word} {e = e} {body = body} {rest = rest} a b c d x) =
+    and_from (small (tree.While word.line true e body)) (small_all rest) (looped word.line true e body (condition c) (loop_body d)) (tops x)
+tops (grammar.for_region {word = word} {first = f} {step = g} {e = e} {body = body} {rest = rest} a b c d x) =
+    and_from (small (tree.For word.line true (f ∷ []) e (g ∷ []) body)) (small_all rest) (headed c word.line true body (loop_body d)) (tops x)
 
 main : {from to : List Lexeme} {body : List RawStmt} → DerivesMain from to body → small_all body ≡ true
 main (grammar.main a b c d e t r f) = tops t
@@ -237,5 +245,6 @@ items : {from to : List Lexeme} {is : List RawItem} → DerivesItems from to is 
 items grammar.none = refl
 items (grammar.more {i = i} {rest = rest} a b) = and_from (item_small i) (list_all item_small rest) (one_item a) (items b)
 
-pub small_texts : (text : List ℕ) (program : RawProgram) → ParsesAs text program → (list_all small program.main ≡ true) × (list_all item_small program.items ≡ true)
+pub small_texts : (text : List ℕ) (program : RawProgram) → ParsesAs text program → (list_all small program.main ≡ true)
+    × (list_all item_small program.items ≡ true)
 small_texts text program h = (main h.derives.main, items h.derives.items)

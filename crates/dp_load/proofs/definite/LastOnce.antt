@@ -8,7 +8,7 @@ use Rattle.dp_text.proofs.RefusedOnce.{one_line}
 use Rattle.dp_save.specs.declared.Checkpoint.{Checkpoint}
 use Rattle.dp_save.specs.declared.CheckpointFail.TheVariants as fail
 use Rattle.dp_save.specs.CheckpointText.{CheckpointText}
-use Rattle.dp_save.specs.Refused.{IsCheckpoint, IsRefused, RefusedBy}
+use Rattle.dp_save.specs.Refused.{IsCheckpoint, IsRefusedCheckpoint, RefusedBy}
 use Rattle.dp_save.proofs.ReadBack.{read_only}
 use Rattle.dp_refusal.specs.declared.refusal.Refusal.{Refusal}
 use Rattle.dp_refusal.specs.declared.refusal.Refusal.TheVariants.{CheckpointLine, Limit}
@@ -36,13 +36,14 @@ module _ (p : Program) (text : List ℕ) where
     | inr clash ↦ absurd (cc clash)
   ]
 
-  none_refused : {A : Type 0} (c : Checkpoint) (line : ℕ) → CheckpointText p text c → IsRefused p text line → A
+  none_refused : {A : Type 0} (c : Checkpoint) (line : ℕ) → CheckpointText p text c → IsRefusedCheckpoint p text line → A
   none_refused c line t r = absurd (elim (read_only p text c t (Err (fail.Refused line)) r) [
     | inl clash ↦ cc clash
     | inr clash ↦ cc clash
   ])
 
-  lines_once : (regions : List RegionInfo) (line other : ℕ) → RefusedBy regions (IsCheckpoint p) (lines_of text) line → RefusedBy regions (IsCheckpoint p) (lines_of text) other → line ≡ other
+  lines_once : (regions : List RegionInfo) (line other : ℕ) → RefusedBy regions (IsCheckpoint p) (lines_of text) line →
+      RefusedBy regions (IsCheckpoint p) (lines_of text) other → line ≡ other
   lines_once [] line other r s = r ∙ sym s
   lines_once (region ∷ rest) line other r s = one_line (IsCheckpoint p) (lines_of text) r s
 
@@ -51,7 +52,8 @@ module _ (p : Program) (text : List ℕ) where
   from_long h (NoCheckpoint line k r) = absurd (omega (arith, h, k))
   from_long h (CheckpointTaken c k t) = absurd (omega (arith, h, k))
 
-  from_line : {b : Result Checkpoint Refusal} (line : ℕ) → length text ≤ 33554432 → IsRefused p text line → ReadsCheckpoint p text b → Err (CheckpointLine line) ≡ b
+  from_line : {b : Result Checkpoint Refusal} (line : ℕ) → length text ≤ 33554432 → IsRefusedCheckpoint p text line → ReadsCheckpoint p text b →
+      Err (CheckpointLine line) ≡ b
   from_line line h r (CheckpointTooLong k) = absurd (omega (arith, h, k))
   from_line line h r (NoCheckpoint other k s) = ap (λ (n : ℕ). Err (CheckpointLine n)) (lines_once p.regions line other r s)
   from_line line h r (CheckpointTaken c k t) = none_refused c line t r

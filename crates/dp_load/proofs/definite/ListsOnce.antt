@@ -9,7 +9,7 @@ use Rattle.dp_list.specs.ListText.{IsList, ListLines}
 use Rattle.dp_refusal.specs.declared.refusal.Refusal.{Refusal}
 use Rattle.dp_refusal.specs.declared.refusal.Refusal.TheVariants.{Limit, ListLine}
 use Rattle.dp_load.specs.Lists.{ReadsList, NoList, Taken, TooLong}
-use Rattle.dp_load.specs.Then.{InTurn, LaterRefused, NoneLeft, OneMore, OneRefused}
+use Rattle.dp_load.specs.Then.{EachInTurn, LaterRefused, NoneLeft, OneMore, OneRefused}
 use Rattle.dp_load.proofs.definite.ThenOnce.{Once}
 
 -- lines that end so are those of one list of names
@@ -34,12 +34,14 @@ module _ (text : List ℕ) where
   from_long h (NoList line k r) = absurd (omega (arith, h, k))
   from_long h (Taken names k t) = absurd (omega (arith, h, k))
 
-  from_line : {b : Result (List (List ℕ)) Refusal} (line : ℕ) → length text ≤ 16384 → IsRefusedAt IsList (lines_of text) line → ReadsList text b → Err (ListLine line) ≡ b
+  from_line : {b : Result (List (List ℕ)) Refusal} (line : ℕ) → length text ≤ 16384 → IsRefusedAt IsList (lines_of text) line → ReadsList text b →
+      Err (ListLine line) ≡ b
   from_line line h r (TooLong k) = absurd (omega (arith, h, k))
   from_line line h r (NoList other k s) = ap (λ (n : ℕ). Err (ListLine n)) (one_line IsList (lines_of text) r s)
   from_line line h r (Taken names k t) = none_refused names t r
 
-  from_list : {b : Result (List (List ℕ)) Refusal} (names : List (List ℕ)) → length text ≤ 16384 → ListLines (lines_of text) names → ReadsList text b → Ok names ≡ b
+  from_list : {b : Result (List (List ℕ)) Refusal} (names : List (List ℕ)) → length text ≤ 16384 → ListLines (lines_of text) names →
+      ReadsList text b → Ok names ≡ b
   from_list names h t (TooLong k) = absurd (omega (arith, h, k))
   from_list names h t (NoList line k r) = none_refused names t r
   from_list names h t (Taken others k s) = ap (λ (ns : List (List ℕ)). Ok ns) (one_list names others t s)
@@ -52,34 +54,41 @@ module _ (text : List ℕ) where
 -- ---- one after the other
 
 module _ {N X E : Type 0} {R : ℕ → N → Result X E → Type 0} (once : (number : ℕ) (name : N) → Once (R number name)) where
-  from_more : {number : ℕ} {name : N} {rest : List N} {b : Result (List X) E} (x : X) (xs : List X) → R number name (Ok x) → ((c : Result (List X) E) → InTurn R (suc number) rest c → Ok xs ≡ c) → InTurn R number (name ∷ rest) b → Ok (x ∷ xs) ≡ b
+  from_more : {number : ℕ} {name : N} {rest : List N} {b : Result (List X) E} (x : X) (xs : List X) → R number name (Ok x) →
+      ((c : Result (List X) E) → EachInTurn R (suc number) rest c → Ok xs ≡ c) → EachInTurn R number (name ∷ rest) b → Ok (x ∷ xs) ≡ b
   from_more x xs h later (OneMore number name rest y ys k next) =
       let first : Ok x ≡ Ok y = once number name (Ok x) (Ok y) h k in
       let others : Ok xs ≡ Ok ys = later (Ok ys) next in
       ap₂ (λ (z : X) (zs : List X). Ok (z ∷ zs)) (cc first) (cc others)
-  from_more x xs h later (OneRefused number name rest refusal k) = let clash : Ok x ≡ Err refusal = once number name (Ok x) (Err refusal) h k in absurd (cc clash)
+  from_more x xs h later (OneRefused number name rest refusal k) =
+      let clash : Ok x ≡ Err refusal = once number name (Ok x) (Err refusal) h k in absurd (cc clash)
   from_more x xs h later (LaterRefused number name rest y refusal k next) = let clash : Ok xs ≡ Err refusal = later (Err refusal) next in absurd (cc clash)
 
-  from_one : {number : ℕ} {name : N} {rest : List N} {b : Result (List X) E} (refusal : E) → R number name (Err refusal) → InTurn R number (name ∷ rest) b → Err refusal ≡ b
+  from_one : {number : ℕ} {name : N} {rest : List N} {b : Result (List X) E} (refusal : E) → R number name (Err refusal) →
+      EachInTurn R number (name ∷ rest) b → Err refusal ≡ b
   from_one refusal h (OneMore number name rest y ys k next) = let clash : Err refusal ≡ Ok y = once number name (Err refusal) (Ok y) h k in absurd (cc clash)
   from_one refusal h (OneRefused number name rest other k) =
       let same : Err refusal ≡ Err other = once number name (Err refusal) (Err other) h k in
       let one : refusal ≡ other = cc same in
       ap (λ (e : E). Err e) one
-  from_one refusal h (LaterRefused number name rest y other k next) = let clash : Err refusal ≡ Ok y = once number name (Err refusal) (Ok y) h k in absurd (cc clash)
+  from_one refusal h (LaterRefused number name rest y other k next) =
+      let clash : Err refusal ≡ Ok y = once number name (Err refusal) (Ok y) h k in absurd (cc clash)
 
-  from_later : {number : ℕ} {name : N} {rest : List N} {b : Result (List X) E} (x : X) (refusal : E) → R number name (Ok x) → ((c : Result (List X) E) → InTurn R (suc number) rest c → Err refusal ≡ c) → InTurn R number (name ∷ rest) b → Err refusal ≡ b
+  from_later : {number : ℕ} {name : N} {rest : List N} {b : Result (List X) E} (x : X) (refusal : E) → R number name (Ok x) →
+      ((c : Result (List X) E) → EachInTurn R (suc number) rest c → Err refusal ≡ c) → EachInTurn R number (name ∷ rest) b → Err refusal ≡ b
   from_later x refusal h later (OneMore number name rest y ys k next) = let clash : Err refusal ≡ Ok ys = later (Ok ys) next in absurd (cc clash)
-  from_later x refusal h later (OneRefused number name rest other k) = let clash : Ok x ≡ Err other = once number name (Ok x) (Err other) h k in absurd (cc clash)
+  from_later x refusal h later (OneRefused number name rest other k) =
+      let clash : Ok x ≡ Err other = once number name (Ok x) (Err other) h k in absurd (cc clash)
   from_later x refusal h later (LaterRefused number name rest y other k next) =
       let same : Err refusal ≡ Err other = later (Err other) next in
       let one : refusal ≡ other = cc same in
       ap (λ (e : E). Err e) one
 
-  from_end : {number : ℕ} {b : Result (List X) E} → InTurn R number [] b → Ok [] ≡ b
+  from_end : {number : ℕ} {b : Result (List X) E} → EachInTurn R number [] b → Ok [] ≡ b
   from_end (NoneLeft number) = refl
 
-  pub in_turn_once : {number : ℕ} {names : List N} {a : Result (List X) E} → InTurn R number names a → (b : Result (List X) E) → InTurn R number names b → a ≡ b
+  pub in_turn_once : {number : ℕ} {names : List N} {a : Result (List X) E} → EachInTurn R number names a → (b : Result (List X) E) →
+      EachInTurn R number names b → a ≡ b
   in_turn_once (NoneLeft number) b k = from_end k
   in_turn_once (OneMore number name rest x xs h later) b k = from_more x xs h (in_turn_once later) k
   in_turn_once (OneRefused number name rest refusal h) b k = from_one refusal h k

@@ -8,7 +8,7 @@ use Rattle.dp_plan.specs.declared.BrokenRule.{BrokenRule}
 use Rattle.dp_plan.specs.declared.WrittenPlan.{WrittenPlan}
 use Rattle.dp_plan_text.specs.PlanText.{PlanText}
 use Rattle.dp_text.specs.Lines.{lines_of}
-use Rattle.dp_plan_text.specs.Refused.{IsBroken, IsPlanText, IsRefused, StandsFor}
+use Rattle.dp_plan_text.specs.Refused.{IsBroken, IsPlanText, IsRefusedPlans, StandsFor}
 use Rattle.dp_plan_text.proofs.OneReading.{one_list, one_meaning}
 use Rattle.dp_text.proofs.RefusedOnce.{one_line, unrefused}
 use Rattle.dp_refusal.specs.declared.refusal.Refusal.{Refusal}
@@ -19,7 +19,7 @@ module _ (p : Program) (small : length p.regions < 2 ^ 32) (text : List ℕ) whe
   one_fault : (fault other : Option BrokenRule) → IsBroken p text fault → IsBroken p text other → fault ≡ other
   one_fault fault other s t = sym s.3 ∙ ap (first_fault p) (one_list p small text s.0 t.0 s.1 t.1 s.2 t.2) ∙ t.3
 
-  none_refused : {A : Type 0} {proved : Bool} {plans : List WrittenPlan} {line : ℕ} → PlanText p text proved plans → IsRefused p text line → A
+  none_refused : {A : Type 0} {proved : Bool} {plans : List WrittenPlan} {line : ℕ} → PlanText p text proved plans → IsRefusedPlans p text line → A
   none_refused {A} {proved} {plans} {line} t r = absurd (unrefused (IsPlanText p) (lines_of text) line (proved, plans, t) r)
 
   from_long : {b : Result (List Plan) Refusal} → 1048576 < length text → ReadsPlans p text b → Err (Limit PlanBytes 1048577) ≡ b
@@ -28,7 +28,7 @@ module _ (p : Program) (small : length p.regions < 2 ^ 32) (text : List ℕ) whe
   from_long h (Broken rule site k r) = absurd (omega (arith, h, k))
   from_long h (Taken plans k r) = absurd (omega (arith, h, k))
 
-  from_line : {b : Result (List Plan) Refusal} (line : ℕ) → length text ≤ 1048576 → IsRefused p text line → ReadsPlans p text b → Err (PlanLine line) ≡ b
+  from_line : {b : Result (List Plan) Refusal} (line : ℕ) → length text ≤ 1048576 → IsRefusedPlans p text line → ReadsPlans p text b → Err (PlanLine line) ≡ b
   from_line line h r (TooLong k) = absurd (omega (arith, h, k))
   from_line line h r (NotPlans other k s) = ap (λ (n : ℕ). Err (PlanLine n)) (one_line (IsPlanText p) (lines_of text) r s)
   from_line line h r (Broken rule site k s) = none_refused s.2 r
@@ -39,7 +39,8 @@ module _ (p : Program) (small : length p.regions < 2 ^ 32) (text : List ℕ) whe
   refusal_of None = Err (PlanRule 0 0)
   refusal_of (Some broken) = Err (PlanRule broken.rule broken.site)
 
-  from_rule : {b : Result (List Plan) Refusal} (rule site : ℕ) → length text ≤ 1048576 → IsBroken p text (Some (record { rule = rule; site = site })) → ReadsPlans p text b → Err (PlanRule rule site) ≡ b
+  from_rule : {b : Result (List Plan) Refusal} (rule site : ℕ) → length text ≤ 1048576 → IsBroken p text (Some (record { rule = rule; site = site })) →
+      ReadsPlans p text b → Err (PlanRule rule site) ≡ b
   from_rule rule site h r (TooLong k) = absurd (omega (arith, h, k))
   from_rule rule site h r (NotPlans line k s) = none_refused r.2 s
   from_rule rule site h r (Broken other place k s) = ap refusal_of (one_fault _ _ r s)

@@ -6,7 +6,7 @@ use Rattle.dp_tree.specs.Inlined.{IsInlined}
 use Rattle.dp_profile.specs.declared.Profile.{Profile}
 use Rattle.dp_profile_text.specs.ProfileText.{ProfileText}
 use Rattle.dp_text.specs.Lines.{lines_of}
-use Rattle.dp_profile_text.specs.Refused.{IsProfileText, IsRefused}
+use Rattle.dp_profile_text.specs.Refused.{IsProfileText, IsRefusedProfile}
 use Rattle.dp_profile.proofs.KnownSites.{few_regions, small_sites}
 use Rattle.dp_profile_text.proofs.ReadBack.{read_only}
 use Rattle.dp_text.proofs.RefusedOnce.{one_line, unrefused}
@@ -21,7 +21,7 @@ module _ (p : Program) (inlined : IsInlined p) (text : List ℕ) where
     | inr clash ↦ absurd (cc clash)
   ]
 
-  none_refused : {A : Type 0} {profile : Profile} {line : ℕ} → ProfileText p text profile → IsRefused p text line → A
+  none_refused : {A : Type 0} {profile : Profile} {line : ℕ} → ProfileText p text profile → IsRefusedProfile p text line → A
   none_refused {A} {profile} {line} t r = absurd (unrefused (IsProfileText p) (lines_of text) line (profile, t) r)
 
   from_long : {b : Result Profile Refusal} → 67108864 < length text → ReadsProfile p text b → Err (Limit ProfileBytes 67108865) ≡ b
@@ -29,7 +29,8 @@ module _ (p : Program) (inlined : IsInlined p) (text : List ℕ) where
   from_long h (NoProfile line k r) = absurd (omega (arith, h, k))
   from_long h (Taken profile k t) = absurd (omega (arith, h, k))
 
-  from_line : {b : Result Profile Refusal} (line : ℕ) → length text ≤ 67108864 → IsRefused p text line → ReadsProfile p text b → Err (ProfileLine line) ≡ b
+  from_line : {b : Result Profile Refusal} (line : ℕ) → length text ≤ 67108864 → IsRefusedProfile p text line → ReadsProfile p text b →
+      Err (ProfileLine line) ≡ b
   from_line line h r (TooLong k) = absurd (omega (arith, h, k))
   from_line line h r (NoProfile other k s) = ap (λ (n : ℕ). Err (ProfileLine n)) (one_line (IsProfileText p) (lines_of text) r s)
   from_line line h r (Taken profile k t) = none_refused t r

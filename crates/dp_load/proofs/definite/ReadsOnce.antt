@@ -26,7 +26,8 @@ module _ (text : List ℕ) where
   same_depth : (tokens others : List Lexeme) → Tokens text tokens → Tokens text others → depth_fault tokens ≡ depth_fault others
   same_depth tokens others a b = ap depth_fault (tokens_once text tokens others a b)
 
-  shallow_and_deep : {A : Type 0} (tokens others : List Lexeme) (quantity : Quantity) (count : ℕ) → Tokens text tokens → Tokens text others → depth_fault tokens ≡ Some (quantity, count) → depth_fault others ≡ None → A
+  shallow_and_deep : {A : Type 0} (tokens others : List Lexeme) (quantity : Quantity) (count : ℕ) → Tokens text tokens → Tokens text others →
+      depth_fault tokens ≡ Some (quantity, count) → depth_fault others ≡ None → A
   shallow_and_deep tokens others quantity count a b deep shallow =
       let clash : Some (quantity, count) ≡ None = sym deep ∙ same_depth tokens others a b ∙ shallow in absurd (cc clash)
 
@@ -44,7 +45,8 @@ module _ (text : List ℕ) where
   from_no_token place h r (NoTree token k d) = absurd (tokens_not_refused text d.tokens place d.of_text r)
   from_no_token place h r (Checked raw k d) = absurd (tokens_not_refused text d.tokens place d.of_text r)
 
-  from_too_deep : {b : Result Program Refusal} (quantity : Quantity) (count : ℕ) → length text ≤ 65536 → NestsTooDeep text quantity count → Reads text b → Err (Limit quantity count) ≡ b
+  from_too_deep : {b : Result Program Refusal} (quantity : Quantity) (count : ℕ) → length text ≤ 65536 → NestsTooDeep text quantity count → Reads text b →
+      Err (Limit quantity count) ≡ b
   from_too_deep quantity count h d (TooLong k) = absurd (omega (arith, h, k))
   from_too_deep quantity count h d (NoToken place k s) = absurd (tokens_not_refused text d.tokens place d.of_text s)
   from_too_deep quantity count h d (TooDeep other more k e) =
@@ -74,7 +76,9 @@ module _ (text : List ℕ) where
   from_no_tree token h d (NoToken place k s) = absurd (tokens_not_refused text d.tokens place d.of_text s)
   from_no_tree token h d (TooDeep quantity count k e) = shallow_and_deep e.tokens d.tokens quantity count e.of_text d.of_text e.deep d.shallow
   from_no_tree token h d (NoTree other k e) =
-      ap (λ (n : ℕ). Err (Syntax n)) (one_place d.tokens token other d.place (subst (λ (list : List Lexeme). LeavesAt list other) (tokens_once text e.tokens d.tokens e.of_text d.of_text) e.place))
+      ap (λ (n : ℕ). Err (Syntax n))
+      (one_place d.tokens token other d.place (subst (λ (list : List Lexeme). LeavesAt list other)
+      (tokens_once text e.tokens d.tokens e.of_text d.of_text) e.place))
   from_no_tree token h d (Checked raw k e) = absurd (d.none raw (derives_here d.tokens e.tokens raw d.of_text e.of_text e.derives))
 
   from_checked : {b : Result Program Refusal} (raw : RawProgram) → length text ≤ 65536 → ParsesAs text raw → Reads text b → checked_read (check_answer raw) ≡ b
@@ -83,7 +87,8 @@ module _ (text : List ℕ) where
   from_checked raw h d (TooDeep quantity count k e) = shallow_and_deep e.tokens d.tokens quantity count e.of_text d.of_text e.deep d.shallow
   from_checked raw h d (NoTree token k e) = absurd (e.none raw (derives_here e.tokens d.tokens raw e.of_text d.of_text d.derives))
   from_checked raw h d (Checked other k e) =
-      ap (λ (x : RawProgram). checked_read (check_answer x)) (one_program d.tokens raw other d.derives (derives_here d.tokens e.tokens other d.of_text e.of_text e.derives))
+      ap (λ (x : RawProgram). checked_read (check_answer x))
+      (one_program d.tokens raw other d.derives (derives_here d.tokens e.tokens other d.of_text e.of_text e.derives))
 
   pub reads_once : {a b : Result Program Refusal} → Reads text a → Reads text b → a ≡ b
   reads_once (TooLong h) r = from_too_long h r

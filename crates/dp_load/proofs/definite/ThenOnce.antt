@@ -6,7 +6,8 @@ use Rattle.dp_load.specs.Then.{Then, Both, FirstRefused, NextRefused}
 abbrev pub Once : {X : Type 0} → (X → Type 0) → Type 0
 Once {X} P = (a b : X) → P a → P b → a ≡ b
 
-module _ {X Y E : Type 0} {First : Result X E → Type 0} {Next : X → Result Y E → Type 0} (first_once : Once First) (next_once : (x : X) → First (Ok x) → Once (Next x)) where
+module _ {X Y E : Type 0} {First : Result X E → Type 0} {Next : X → Result Y E → Type 0} (first_once : Once First)
+    (next_once : (x : X) → First (Ok x) → Once (Next x)) where
   from_both : {b : Result (X × Y) E} (x : X) (y : Y) → First (Ok x) → Next x (Ok y) → Then First Next b → Ok (x, y) ≡ b
   from_both x y f n (Both z w g m) =
       let same : Ok x ≡ Ok z = first_once (Ok x) (Ok z) f g in

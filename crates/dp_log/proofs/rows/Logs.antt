@@ -11,7 +11,7 @@ use Rattle.dp_plan.proofs.Plans.{stale_read_plan}
 use Rattle.dp_semantics.specs.OneStage.{one_stage_plan}
 use Rattle.dp_semantics.specs.Verdict.{source_run}
 use Rattle.dp_report.specs.Lines.{labelled_signed}
-use Rattle.dp_log.specs.LogText.{log_bytes, regions_bytes}
+use Rattle.dp_log.specs.LogText.{log_bytes, logged_regions}
 
 whole : log_bytes sum_loop (one_stage_plan sum_loop 1 ∷ []) (source_run sum_loop [] 10000)
     ≡ codes "log 1\nregion 1\ncommit 0\nset 1 1\nprint 0\ncommit 1\nset 0 1\nset 1 2\nprint 1\ncommit 2\nset 0 3\nset 1 3\nprint 3\ncommit 3\nclosed 1\nend done\n"
@@ -19,12 +19,14 @@ unfolding tree_opened labelled labelled_signed Rattle.std.specs.Fmt.digits
 whole = refl
 
 -- the fuel is spent within iteration 2, which changed nothing
-cut : log_bytes sum_loop (one_stage_plan sum_loop 1 ∷ []) (source_run sum_loop [] 10) ≡ codes "log 1\nregion 1\ncommit 0\nset 1 1\nprint 0\ncommit 1\nset 0 1\nset 1 2\nprint 1\nagain 2\nend fuel\n"
+cut : log_bytes sum_loop (one_stage_plan sum_loop 1 ∷ []) (source_run sum_loop [] 10) ≡ codes
+    "log 1\nregion 1\ncommit 0\nset 1 1\nprint 0\ncommit 1\nset 0 1\nset 1 2\nprint 1\nagain 2\nend fuel\n"
 unfolding tree_opened labelled labelled_signed Rattle.std.specs.Fmt.digits
 cut = refl
 
 -- .. and exactly before its condition, so that it isn't begun
-before_a_condition : log_bytes sum_loop (one_stage_plan sum_loop 1 ∷ []) (source_run sum_loop [] 9) ≡ codes "log 1\nregion 1\ncommit 0\nset 1 1\nprint 0\ncommit 1\nset 0 1\nset 1 2\nprint 1\nend fuel\n"
+before_a_condition : log_bytes sum_loop (one_stage_plan sum_loop 1 ∷ []) (source_run sum_loop [] 9) ≡ codes
+    "log 1\nregion 1\ncommit 0\nset 1 1\nprint 0\ncommit 1\nset 0 1\nset 1 2\nprint 1\nend fuel\n"
 unfolding tree_opened labelled labelled_signed Rattle.std.specs.Fmt.digits
 before_a_condition = refl
 
@@ -34,13 +36,13 @@ unfolding tree_opened labelled labelled_signed Rattle.std.specs.Fmt.digits
 none = refl
 
 -- what stage 1 reads too early is executed again, and its changes and those of the others are told alike
-again : regions_bytes stale_read (stale_read_plan ∷ []) (source_run stale_read [] 10000)
+again : logged_regions stale_read (stale_read_plan ∷ []) (source_run stale_read [] 10000)
     ≡ codes "region 1\ncommit 0\nset 2 1\nset 9 1\ncommit 1\nset 3 2\nset 9 2\nagain 2\nset 4 3\nset 8 1\nset 9 3\ncommit 3\nset 5 4\nset 8 3\nset 9 4\ncommit 4\nset 6 5\nset 8 6\nset 9 5\nagain 5\nset 7 6\nset 8 10\nset 9 6\ncommit 6\nclosed 1\n"
 unfolding tree_opened labelled labelled_signed Rattle.std.specs.Fmt.digits
 again = refl
 
 -- a store of the value that the cell has changes nothing
-same_values : regions_bytes same_value_store (stale_read_plan ∷ []) (source_run same_value_store [] 10000)
+same_values : logged_regions same_value_store (stale_read_plan ∷ []) (source_run same_value_store [] 10000)
     ≡ codes "region 1\ncommit 0\nset 9 1\ncommit 1\nset 9 2\ncommit 2\nset 9 3\ncommit 3\nset 9 4\ncommit 4\nset 9 5\ncommit 5\nset 9 6\ncommit 6\nclosed 1\n"
 unfolding tree_opened labelled labelled_signed Rattle.std.specs.Fmt.digits
 same_values = refl
@@ -54,7 +56,8 @@ local_first = program
     (region 1 1 (bin op.Lt (var 0) (num 2)) (set 2 1 (num 5) ∷ set 3 0 (add (var 0) (num 1)) ∷ []) ∷ [])
 
 -- x isn't told, also where the run ends while it holds 5
-body_locals : (regions_bytes local_first (one_stage_plan local_first 1 ∷ []) (source_run local_first [] 2) ≡ codes "region 1\nagain 0\n")
-    × (regions_bytes local_first (one_stage_plan local_first 1 ∷ []) (source_run local_first [] 100) ≡ codes "region 1\ncommit 0\nset 0 1\ncommit 1\nset 0 2\ncommit 2\nclosed 1\n")
+body_locals : (logged_regions local_first (one_stage_plan local_first 1 ∷ []) (source_run local_first [] 2) ≡ codes "region 1\nagain 0\n")
+    × (logged_regions local_first (one_stage_plan local_first 1 ∷ []) (source_run local_first [] 100) ≡ codes
+    "region 1\ncommit 0\nset 0 1\ncommit 1\nset 0 2\ncommit 2\nclosed 1\n")
 unfolding tree_opened labelled labelled_signed Rattle.std.specs.Fmt.digits
 body_locals = (refl, refl)

@@ -1,5 +1,8 @@
 -- A call of `iterate` has one answer: the machine before it settles the machine after it, the prints and the end.
-use Rattle.dp_meaning.proofs.Names.{◌≡◌, refl, sym, ◌∙◌, ap, subst, ◌⊎◌, inl, inr, Option, None, Some, ℕ, ◌<◌, ◌≤◌, Bool, true, false, ◌||◌, List, [], ◌∷◌, ◌++◌, length, ℤ, arith, All-head, Config, Event, Run, decides_zero, is_leaving, list_any, Part, MachineState, part_of, rest_of_run, IterationRun, IterationStops, HeadsOnce, Awaits, GoesOn, StartsAgain, has_closed, upto_closing, current_after}
+use Rattle.dp_meaning.proofs.Names.{◌≡◌, refl, sym, ◌∙◌, ap, subst, ◌⊎◌, inl, inr, Option, None, Some, ℕ, ◌<◌, ◌≤◌, Bool, true, false, ◌||◌, List, [], ◌∷◌}
+use Rattle.dp_meaning.proofs.Names.{◌++◌, length, ℤ, arith, All-head, Config, Event, Run, decides_zero, is_leaving, list_any, Part, MachineState, part_of}
+use Rattle.dp_meaning.proofs.Names.{rest_of_run, IterationRun, IterationStops, HeadsOnce, AwaitsCondition, IterationGoesOn, StartsAgain, has_closed}
+use Rattle.dp_meaning.proofs.Names.{upto_closing, current_after}
 use Rattle.dp_tree.proofs.Leaving.{any_more}
 use Rattle.std.proofs.lemmas.Bool.{cases_order}
 use Rattle.dp_meaning.specs.declared.ends.Part.TheVariants as part
@@ -14,7 +17,8 @@ clash : (p : Part) (r : ℕ) → p ≡ part.Region r → p ≡ part.Plain → �
 clash p r e f = absurd (cc)
 
 -- no region is before a step behind the iteration's first
-plain_behind : (region : ℕ) (current : Option ℕ) (cs more : List Config) (c : Config) → HeadsOnce region current (cs ++ c ∷ more) → (current ≡ None → 0 < length cs) → IsPlain c
+plain_behind : (region : ℕ) (current : Option ℕ) (cs more : List Config) (c : Config) → HeadsOnce region current (cs ++ c ∷ more) →
+    (current ≡ None → 0 < length cs) → IsPlain c
 plain_behind region (Some r) cs more c h some = All-head IsPlain c more (behind_all IsPlain cs (c ∷ more) h)
 plain_behind region None [] more c h some = let none : 0 < 0 = some refl in absurd (omega (arith, none))
 plain_behind region None (d ∷ cs) more c h some = All-head IsPlain c more (behind_all IsPlain cs (c ∷ more) h.1)
@@ -28,54 +32,64 @@ closed_front None (e ∷ es) more h = by (decides_zero e.effect) h
     by true k = refl
     by false k = any_more (e ∷ es) more k
 
-closing_front : (current : Option ℕ) (es more : List Event) → has_closed current es ≡ true → upto_closing current es ≡ es → upto_closing current (es ++ more) ≡ es
+closing_front : (current : Option ℕ) (es more : List Event) → has_closed current es ≡ true → upto_closing current es ≡ es →
+    upto_closing current (es ++ more) ≡ es
 closing_front (Some r) es more c h = upto_front es more c ∙ h
 closing_front None es more c h = last_front es more c ∙ h
 
-longer : (current : Option ℕ) (es fs more : List Event) → has_closed current es ≡ true → upto_closing current es ≡ es → fs ≡ es ++ more → upto_closing current fs ≡ fs → length es < length fs → ⊥
+longer : (current : Option ℕ) (es fs more : List Event) → has_closed current es ≡ true → upto_closing current es ≡ es → fs ≡ es ++ more →
+    upto_closing current fs ≡ fs → length es < length fs → ⊥
 longer current es fs more c h is last less =
     let same : fs ≡ es = sym last ∙ ap (upto_closing current) is ∙ closing_front current es more c h in
     let size = ap length same in
     absurd (omega (arith, size, less))
 
 module _ (region turns : ℕ) (old : MachineState) (before : List ℤ) where
-  last_step : (b : MachineState) (fs : List Event) (how : IterEnd) → IterationStops region turns old b fs how → (has_closed old.current fs ≡ false) ⊎ (upto_closing old.current fs ≡ fs)
+  last_step : (b : MachineState) (fs : List Event) (how : IterEnd) → IterationStops region turns old b fs how → (has_closed old.current fs ≡ false)
+      ⊎ (upto_closing old.current fs ≡ fs)
   last_step b fs Next s = inl s.not_closed
   last_step b fs Closed s = inr s.last
   last_step b fs _ s = inl s.0.not_closed
 
-  module _ (a b : MachineState) (es fs : List Event) (cs ds : List Config) (k : Further a es fs cs ds) (heads : HeadsOnce region old.current ds) (paired : length cs ≡ length es) where
+  module _ (a b : MachineState) (es fs : List Event) (cs ds : List Config) (k : Further a es fs cs ds) (heads : HeadsOnce region old.current ds)
+      (paired : length cs ≡ length es) where
     plain_here : (old.current ≡ None → 0 < length es) → IsPlain a.config
-    plain_here some = plain_behind region old.current cs k.configs a.config (subst (HeadsOnce region old.current) k.configs_are heads) (λ e. let h = some e in omega (arith, h, paired))
+    plain_here some = plain_behind region old.current cs k.configs a.config (subst (HeadsOnce region old.current) k.configs_are heads) (λ e. let h = some e in
+        omega (arith, h, paired))
 
-    no_step : (end how : IterEnd) → IterationStops region turns old a es end → IterationStops region turns old b fs how → length es < length fs → length fs ≤ turns → ⊥
+    no_step : (end how : IterEnd) → IterationStops region turns old a es end → IterationStops region turns old b fs how → length es < length fs →
+        length fs ≤ turns → ⊥
     no_step Next how r s h w = clash (part_of a.config.to_do) region r.head (plain_here r.some)
     no_step Closed how r s h w =
         elim (last_step b fs how s) [
-          | inl stays ↦ (let clash : true ≡ false = sym (closed_front old.current es k.events r.closed) ∙ ap (has_closed old.current) (sym k.events_are) ∙ stays in absurd (cc clash))
+          | inl stays ↦ (let clash : true ≡ false = sym (closed_front old.current es k.events r.closed) ∙ ap (has_closed old.current) (sym
+              k.events_are) ∙ stays in absurd (cc clash))
           | inr last ↦ longer old.current es fs k.events r.closed r.last k.events_are last h
         ]
     no_step (Fault fault) how r s h w = no_event (rest_of_run a) _ a.config _ r.2.ends k.some
     no_step Fuel how r s h w = no_event (rest_of_run a) _ a.config _ r.1.ends k.some
     no_step Going how r s h w = let all = r.2 in absurd (omega (arith, h, w, all))
 
-  no_further : (a b : MachineState) (y z : List ℤ) (end how : IterEnd) (r : IterationRun region turns old a before y end) (s : IterationRun region turns old b before z how) → length r.events < length s.events → ⊥
+  no_further : (a b : MachineState) (y z : List ℤ) (end how : IterEnd) (r : IterationRun region turns old a before y end)
+      (s : IterationRun region turns old b before z how) → length r.events < length s.events → ⊥
   no_further a b y z end how r s h =
       let k = further old a b before y z r.events s.events r.configs s.configs r.moved s.moved h in
       no_step a b r.events s.events r.configs s.configs k s.heads r.moved.run.paired end how r.stops s.stops h s.within
 
   -- while the iteration goes on its condition isn't next again
-  awaits_plain : (current : Option ℕ) (es : List Event) (c : Config) → (current ≡ None → 0 < length es) → Awaits region (current_after region current es) c → IsPlain c
+  awaits_plain : (current : Option ℕ) (es : List Event) (c : Config) → (current ≡ None → 0 < length es) →
+      AwaitsCondition region (current_after region current es) c → IsPlain c
   awaits_plain (Some r) [] c some h = h
   awaits_plain (Some r) (e ∷ es) c some h = h
   awaits_plain None [] c some h = let none : 0 < 0 = some refl in absurd (omega (arith, none))
   awaits_plain None (e ∷ es) c some h = h
 
-  not_again : (a b : MachineState) (es : List Event) → a.config ≡ b.config → StartsAgain region old a es → GoesOn region old b es → ⊥
+  not_again : (a b : MachineState) (es : List Event) → a.config ≡ b.config → StartsAgain region old a es → IterationGoesOn region old b es → ⊥
   not_again a b es same r g =
-      let awaits : Awaits region (current_after region old.current es) b.config = subst (λ (c : Option ℕ). Awaits region c b.config) g.current g.awaits in
+      let awaits : AwaitsCondition region (current_after region old.current es) b.config = subst (λ (c : Option ℕ). AwaitsCondition region c b.config)
+      g.current g.awaits in
       clash (part_of a.config.to_do) region r.head
-      (awaits_plain old.current es a.config r.some (subst (λ (c : Config). Awaits region (current_after region old.current es) c) (sym same) awaits))
+      (awaits_plain old.current es a.config r.some (subst (λ (c : Config). AwaitsCondition region (current_after region old.current es) c) (sym same) awaits))
 
   opposite : (v : Bool) → v ≡ true → v ≡ false → ⊥
   opposite v e f = absurd (cc)
@@ -120,7 +134,8 @@ module _ (region turns : ℕ) (old : MachineState) (before : List ℤ) where
     same_current Closed r s = r.current ∙ sym s.current
     same_current _ r s = r.0.current ∙ sym s.0.current
 
-  module _ (a b : MachineState) (y z : List ℤ) (end how : IterEnd) (r : IterationRun region turns old a before y end) (s : IterationRun region turns old b before z how) where
+  module _ (a b : MachineState) (y z : List ℤ) (end how : IterEnd) (r : IterationRun region turns old a before y end)
+      (s : IterationRun region turns old b before z how) where
     record OneAnswer : Type 0 where
       machine : a ≡ b
       prints : z ≡ y

@@ -1,5 +1,7 @@
 -- What stands where memory was wanting, and behind a call.
-use Rattle.dp_meaning.proofs.Names.{◌≡◌, refl, sym, ◌∙◌, ap, subst, true, false, ℕ, ◌+◌, ◌<◌, Option, None, Some, List, [], ◌∷◌, ◌++◌, append_assoc, drop, length, ℤ, arith, filter_map-append, Config, Event, prints, printed_by, PartEnd, MachineState, rest_of_run, part_of, part_at, next_part, from_region, Spoiled, PartRun, IterationRun, HeadsOnce, Awaits, Ends, End}
+use Rattle.dp_meaning.proofs.Names.{◌≡◌, refl, sym, ◌∙◌, ap, subst, true, false, ℕ, ◌+◌, ◌<◌, Option, None, Some, List, [], ◌∷◌, ◌++◌, append_assoc, drop}
+use Rattle.dp_meaning.proofs.Names.{length, ℤ, arith, filter_map-append, Config, Event, prints, printed_by, PartEnd, MachineState, rest_of_run, part_of}
+use Rattle.dp_meaning.proofs.Names.{part_at, next_part, from_region, Spoiled, PartRun, IterationRun, HeadsOnce, AwaitsCondition, Ends, End}
 use Rattle.dp_meaning.specs.declared.ends.Part.TheVariants as part
 use Rattle.dp_meaning.specs.declared.ends.PartEnd.TheVariants as part_end
 use Rattle.dp_meaning.specs.declared.ends.IterEnd.TheVariants as iter_end
@@ -61,9 +63,10 @@ condition_comes_first : (region : ℕ) (first : Config) (rest : List Config) →
 condition_comes_first region first rest heads = heads.0
 
 -- one that isn't begun still stands there
-unbegun_stands_at_its_condition : (region turns : ℕ) (old new : MachineState) (out : List ℤ) → old.current ≡ None → IterationRun region turns old new out out iter_end.Going → new.current ≡ None →
+unbegun_stands_at_its_condition : (region turns : ℕ) (old new : MachineState) (out : List ℤ) → old.current ≡ None →
+    IterationRun region turns old new out out iter_end.Going → new.current ≡ None →
     part_of new.config.to_do ≡ part.Region region
-unbegun_stands_at_its_condition region turns old new out idle run none = subst (λ (c : Option ℕ). Awaits region c new.config) none run.stops.0.awaits
+unbegun_stands_at_its_condition region turns old new out idle run none = subst (λ (c : Option ℕ). AwaitsCondition region c new.config) none run.stops.0.awaits
 
 -- what is next where nothing is left, and while an iteration is under way
 nothing_left : part_of [] ≡ part.Finished

@@ -1,5 +1,6 @@
 -- A call of `run_part` has one answer: the machine before it settles the machine after it, the prints and the end.
-use Rattle.dp_meaning.proofs.Names.{◌≡◌, refl, sym, ◌∙◌, ap, subst, inl, inr, None, ℕ, ◌<◌, List, ◌∷◌, length, All, ℤ, arith, All-head, End, Config, Run, ended, PartEnd, MachineState, rest_of_run, PartRun, PartStops}
+use Rattle.dp_meaning.proofs.Names.{◌≡◌, refl, sym, ◌∙◌, ap, subst, inl, inr, None, ℕ, ◌<◌, List, ◌∷◌, length, All, ℤ, arith, All-head, End, Config, Run, ended}
+use Rattle.dp_meaning.proofs.Names.{PartEnd, MachineState, rest_of_run, PartRun, PartStops}
 use Rattle.std.proofs.lemmas.Bool.{cases_order}
 use Rattle.dp_meaning.specs.declared.ends.PartEnd.TheVariants.{Done, Fault, Fuel, Going}
 use Rattle.dp_meaning.proofs.StopLemmas.{part_idle}
@@ -12,16 +13,19 @@ no_event r fuel c how e h = let none : length r.trace ≡ 0 = ap (λ (s : Run). 
 
 module _ (turns : ℕ) (old : MachineState) (idle : old.current ≡ None) (before : List ℤ) where
   -- no step follows
-  no_step : (a : MachineState) (made : ℕ) (end : PartEnd) → PartStops turns made old a end → a.current ≡ None → IsPlain a.config → made < turns → 0 < length (rest_of_run a).trace → ⊥
+  no_step : (a : MachineState) (made : ℕ) (end : PartEnd) → PartStops turns made old a end → a.current ≡ None → IsPlain a.config → made < turns →
+      0 < length (rest_of_run a).trace → ⊥
   no_step a made Done s none plain few some = s.part (part_idle a none ∙ plain)
   no_step a made (Fault fault) s none plain few some = no_event (rest_of_run a) _ a.config _ s.2.ends some
   no_step a made Fuel s none plain few some = no_event (rest_of_run a) _ a.config _ s.1.ends some
   no_step a made Going s none plain few some = let all = s.2 in absurd (omega (arith, few, all))
 
-  no_further : (a b : MachineState) (y z : List ℤ) (end how : PartEnd) (r : PartRun turns old a before y end) (s : PartRun turns old b before z how) → length r.went.events < length s.went.events → ⊥
+  no_further : (a b : MachineState) (y z : List ℤ) (end how : PartEnd) (r : PartRun turns old a before y end) (s : PartRun turns old b before z how) →
+      length r.went.events < length s.went.events → ⊥
   no_further a b y z end how r s h =
       let k = further old a b before y z r.went.events s.went.events r.went.configs s.went.configs r.went.moved s.went.moved h in
-      let plain = All-head IsPlain a.config k.configs (behind_all IsPlain r.went.configs (a.config ∷ k.configs) (subst (All IsPlain) k.configs_are s.went.plain)) in
+      let plain = All-head IsPlain a.config k.configs (behind_all IsPlain r.went.configs (a.config ∷ k.configs)
+      (subst (All IsPlain) k.configs_are s.went.plain)) in
       let w = s.within in
       no_step a (length r.went.events) end r.stops (r.went.current ∙ idle) plain (omega (arith, h, w)) k.some
 

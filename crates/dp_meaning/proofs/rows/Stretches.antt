@@ -1,5 +1,6 @@
 -- Two stretches of steps from one machine on: the longer one goes on where the shorter one stops.
-use Rattle.dp_meaning.proofs.Names.{◌≡◌, refl, sym, ◌∙◌, ap, subst, ℕ, ◌+◌, ◌-◌, ◌<◌, ◌≤◌, Bool, Option, List, [], ◌∷◌, ◌++◌, append-nil, length, length-append, All, ℤ, arith, All-tail, Program, Config, Event, prints, MachineState, rest_of_run, Moved}
+use Rattle.dp_meaning.proofs.Names.{◌≡◌, refl, sym, ◌∙◌, ap, subst, ℕ, ◌+◌, ◌-◌, ◌<◌, ◌≤◌, Bool, Option, List, [], ◌∷◌, ◌++◌, append-nil, length, length-append}
+use Rattle.dp_meaning.proofs.Names.{All, ℤ, arith, All-tail, Program, Config, Event, prints, MachineState, rest_of_run, Moved}
 use Rattle.dp_meaning.proofs.NextLemmas.{run_begins}
 use Rattle.std.proofs.lemmas.List.{nil_from_length}
 
@@ -70,7 +71,8 @@ module _ (old a b : MachineState) (x y z : List ℤ) (es fs : List Event) (cs ds
       let p = m.run.paired in
       let q = n.run.paired in
       let longer : length fs ≡ length es + length t.more = ap (λ (xs : List Event). length xs) t.longer_is ∙ length-append es t.more in
-      let rest : length (rest_of_run a).trace ≡ length t.more + length (rest_of_run b).trace = ap (λ (xs : List Event). length xs) t.rest_is ∙ length-append t.more (rest_of_run b).trace in
+      let rest : length (rest_of_run a).trace ≡ length t.more + length (rest_of_run b).trace = ap (λ (xs : List Event). length xs) t.rest_is
+      ∙ length-append t.more (rest_of_run b).trace in
       let listed : length ds ≡ length cs + length c.more = ap (λ (xs : List Config). length xs) c.longer_is ∙ length-append cs c.more in
       let first = front_begins c.more (rest_of_run b).configs (rest_of_run a).configs a.config (omega (arith, h, p, q, listed)) (begins_here a) c.rest_is in
       record {

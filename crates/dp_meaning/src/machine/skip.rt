@@ -4,7 +4,7 @@ ghost use Rattle.dp_tree.specs.Trace.{prints};
 ghost use Rattle.dp_tree.specs.Iteration.{iteration};
 ghost use Rattle.dp_meaning.specs.MachineState.{next_part, rest_of_run, IsAnyRegion};
 ghost use Rattle.dp_meaning.specs.IterationRun.{IterationRun};
-ghost use Rattle.dp_meaning.specs.NextIteration.{NextIteration, end_of};
+ghost use Rattle.dp_meaning.specs.NextIteration.{NextIteration, end_of_iteration};
 
 use super::Machine;
 use crate::ends::Part;
@@ -19,7 +19,7 @@ impl<'p> Machine<'p> {
         requires between { self.old.current ≡ None }
         requires known { (region : ℕ) → next_part self.old ≡ Part.Region region → NextIteration region self.old stores.now steps closing }
         ensures { (region : ℕ) (out : List ℤ) → next_part self.old ≡ Part.Region region →
-            IterationRun region steps self.old self.new out (out ++ prints (iteration (rest_of_run self.old) region 0)) (end_of closing) }
+            IterationRun region steps self.old self.new out (out ++ prints (iteration (rest_of_run self.old) region 0)) (end_of_iteration closing) }
     {
         self.position.skip(&self.code, stores, closing);
         self.steps += steps;

@@ -17,9 +17,12 @@ impl<'p> Machine<'p> {
         requires part { next_part self.old ≡ Part.Plain }
         requires long { length cells ≡ length self.old.config.cells }
         requires within { steps ≤ fuel_left self.old }
-        requires led { (before : List ℤ) × (after : List ℤ) × PlainSteps self.old.program self.old.input self.old.config before (standing self.old.program (rest_at self.old.program place) cells) after steps }
-        ensures state { self.new ≡ record self.old { config = standing self.old.program (rest_at self.old.program place) cells; steps = self.old.steps + steps } }
-        ensures moved { (before after : List ℤ) → PlainSteps self.old.program self.old.input self.old.config before self.new.config after steps → PartMoved self.old self.new before after }
+        requires led { (before : List ℤ) × (after : List ℤ) × PlainSteps self.old.program self.old.input self.old.config before
+            (standing self.old.program (rest_at self.old.program place) cells) after steps }
+        ensures state { self.new ≡ record self.old
+            { config = standing self.old.program (rest_at self.old.program place) cells; steps = self.old.steps + steps } }
+        ensures moved { (before after : List ℤ) → PlainSteps self.old.program self.old.input self.old.config before self.new.config after steps →
+            PartMoved self.old self.new before after }
     {
         self.position.stand(&self.code, place, cells);
         self.steps += steps;

@@ -58,7 +58,8 @@ impl<'p> Machine<'p> {
         loads: &mut Loads,
     ) -> Result<(IterEnd, Sight), NoMemory>
         requires part { IsAnyRegion (next_part self.old) }
-        ensures runs { (region : ℕ) → next_part self.old ≡ Part.Region region → IfOk result (λ seen. IterationRun region 1 self.old self.new out.old out.new seen.0) }
+        ensures runs { (region : ℕ) → next_part self.old ≡ Part.Region region →
+            IfOk result (λ seen. IterationRun region 1 self.old self.new out.old out.new seen.0) }
         ensures told { IfOk result (λ seen. WatchedStep seen.1 loads.new.cells self.old self.new) }
         ensures err { OnErr result (WatchSpoiled self.old self.new out.old out.new) }
         ensures spoiled { IsTrue self.old.spoiled → IsErr result × (self.new ≡ self.old) × (out.new ≡ out.old) }

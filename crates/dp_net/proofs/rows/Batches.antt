@@ -48,10 +48,12 @@ module _ (p : Program) (plan : Plan) (cause : ReportedCause) where
   abbrev both : List StoreOf
   both = store 0 (pos 5) ∷ store 0 (pos 6) ∷ store 1 (pos 7) ∷ []
 
-  goes_on : together (Commit first ∷ Commit second ∷ []) ≡ record { iterations = 2; stores = both; prints = pos 1 ∷ pos 2 ∷ pos 3 ∷ []; steps = 9; ends = BatchGoesOn }
+  goes_on : together (Commit first ∷ Commit second ∷ [])
+      ≡ record { iterations = 2; stores = both; prints = pos 1 ∷ pos 2 ∷ pos 3 ∷ []; steps = 9; ends = BatchGoesOn }
   goes_on = refl
 
-  recovers : together (Commit first ∷ Again cause ∷ Commit second ∷ []) ≡ record { iterations = 1; stores = store 0 (pos 5) ∷ []; prints = pos 1 ∷ []; steps = 4; ends = BatchRecovers cause }
+  recovers : together (Commit first ∷ Again cause ∷ Commit second ∷ [])
+      ≡ record { iterations = 1; stores = store 0 (pos 5) ∷ []; prints = pos 1 ∷ []; steps = 4; ends = BatchRecovers cause }
   recovers = refl
 
   leaves : together (Commit closes ∷ Commit first ∷ []) ≡ record { iterations = 1; stores = store 2 (pos 8) ∷ []; prints = []; steps = 1; ends = BatchCloses }

@@ -31,7 +31,8 @@ abbrev two_epoch : Epoch
 two_epoch = record { program = two_stores; plan = two_plan; input = []; base = pos 0 ∷ pos 0 ∷ [] }
 
 sent : (net_passed (marks_of two_stores two_plan any) two_epoch 2 1).packet.lists
-    ≡ (Said (record { site = record { 0 = 2 }; kind = word.Done; index = 0; value = pos 1 }) ∷ Net 5 1 (Stored 1 (pos 2) ∷ []) ∷ []) ∷ (Net 3 2 (Stored 0 (pos 1) ∷ []) ∷ []) ∷ []
+    ≡ (Said (record { site = record { 0 = 2 }; kind = word.Done; index = 0; value = pos 1 }) ∷ Net 5 1 (Stored 1 (pos 2) ∷ []) ∷ [])
+    ∷ (Net 3 2 (Stored 0 (pos 1) ∷ []) ∷ []) ∷ []
 unfolding tree_opened net_from quiet_from
 sent = refl
 

@@ -21,7 +21,8 @@ kept f after n = if f.last == after - 1 then n else after - 1
 
 -- after an evaluation of this site
 abbrev pub frame_after : Frame → ℕ → ℕ → Frame
-frame_after f site after = record { first = f.first; since = kept f after f.since; begun = if f.first.0 == site then after - 1 else kept f after f.begun; last = after }
+frame_after f site after =
+    record { first = f.first; since = kept f after f.since; begun = if f.first.0 == site then after - 1 else kept f after f.begun; last = after }
 
 -- the column of a store of this site, of an earlier iteration or not
 abbrev pub column : Frame → ℕ → Bool → ℕ
@@ -29,7 +30,8 @@ column f site carried = 2 * (site - f.first.0) + one_if carried
 
 -- that of the store that a load reads
 abbrev pub column_of : Frame → Writer → Bool → Option ℕ
-column_of f w local = if nat_le w.after f.since then None else (if nat_le w.after f.begun && local then None else Some (column f w.site.0 (nat_le w.after f.begun)))
+column_of f w local =
+    if nat_le w.after f.since then None else (if nat_le w.after f.begun && local then None else Some (column f w.site.0 (nat_le w.after f.begun)))
 
 abbrev pub hits : Option ℕ → ℕ → Bool
 hits None k = false

@@ -1,5 +1,6 @@
 -- The profile that is taken from what was counted.
-use Rattle.std.specs.Prelude.{◌≡◌, ℕ, ◌+◌, ◌*◌, ◌/◌, ◌%◌, ◌<◌, ◌==◌, Bool, true, false, List, [], ◌∷◌, ◌++◌, map, length, get_or, Option, Some, None, slice_get, slice_set}
+use Rattle.std.specs.Prelude.{◌≡◌, ℕ, ◌+◌, ◌*◌, ◌/◌, ◌%◌, ◌<◌, ◌==◌, Bool, true, false, List, [], ◌∷◌, ◌++◌, map, length, get_or, Option, Some, None, slice_get}
+use Rattle.std.specs.Prelude.{slice_set}
 use Rattle.dp_profile.specs.declared.sites.RegionSite.{RegionSite}
 use Rattle.dp_profile.specs.declared.RegionProfile.{RegionProfile}
 use Rattle.dp_profile.specs.declared.Flow.{Flow}
@@ -48,7 +49,8 @@ row_at rows place = get_or rows place []
 -- each row has got the flows of these columns
 pub record Grows (sites : List RegionSite) (to : RegionSite) (shown : List (ℕ × ℕ)) (old new : List (List Flow)) : Type 0 where
   pub size : length new ≡ length old
-  pub rows : (place : ℕ) (from : RegionSite) → slice_get sites place ≡ Some from → place < length old → row_at new place ≡ row_at old place ++ flows_of place from to shown
+  pub rows : (place : ℕ) (from : RegionSite) → slice_get sites place ≡ Some from → place < length old → row_at new place ≡ row_at old place
+      ++ flows_of place from to shown
 
 -- the rows one after the other
 abbrev pub all_rows : List (List Flow) → List Flow

@@ -21,18 +21,21 @@ unfolding operators symbol is_one_of
 words_do_not_count = refl
 
 -- braces and semicolons begin anew, and nothing else does
-separators : map (λ text. operators (split text)) (codes "+ + ; + + +" ∷ codes "+ + { +" ∷ codes "+ } + +" ∷ codes "+ + , + +" ∷ codes "+ ) + +" ∷ codes "+ = + x + #" ∷ [])
+separators : map (λ text. operators (split text)) (codes "+ + ; + + +" ∷ codes "+ + { +" ∷ codes "+ } + +" ∷ codes "+ + , + +" ∷ codes "+ ) + +"
+    ∷ codes "+ = + x + #" ∷ [])
     ≡ 3 ∷ 2 ∷ 2 ∷ 4 ∷ 3 ∷ 3 ∷ []
 unfolding operators symbol is_one_of
 separators = refl
 
 -- the most braces that are open, also where more were closed before; the place behind the last token counts
-braces : map (λ text. nesting (split text)) (codes "{ { } {" ∷ codes "} { {" ∷ codes "} } } {" ∷ codes "{ { { } } }" ∷ codes "{" ∷ codes "x ( (" ∷ [] ∷ []) ≡ 2 ∷ 1 ∷ 0 ∷ 3 ∷ 1 ∷ 0 ∷ 0 ∷ []
+braces : map (λ text. nesting (split text)) (codes "{ { } {" ∷ codes "} { {" ∷ codes "} } } {" ∷ codes "{ { { } } }" ∷ codes "{" ∷ codes "x ( (" ∷ [] ∷ []) ≡ 2
+    ∷ 1 ∷ 0 ∷ 3 ∷ 1 ∷ 0 ∷ 0 ∷ []
 unfolding nesting symbol is_one_of
 braces = refl
 
 -- an `else` counts where an `if` stands right behind it, wherever that is
-else_ifs : map (λ text. else_if (split text)) (codes "else if else { } else if if else" ∷ codes "if else" ∷ codes "else else if" ∷ codes "else { if" ∷ []) ≡ 2 ∷ 0 ∷ 1 ∷ 0 ∷ []
+else_ifs : map (λ text. else_if (split text)) (codes "else if else { } else if if else" ∷ codes "if else" ∷ codes "else else if" ∷ codes "else { if" ∷ [])
+    ≡ 2 ∷ 0 ∷ 1 ∷ 0 ∷ []
 unfolding else_if symbol is_one_of
 else_ifs = refl
 

@@ -17,10 +17,12 @@ module _ (text : Text) (p : RawProgram) where
   no_tokens : (place : ℕ) → Parses text (Err (Lex place)) → RefusedAt text place
   no_tokens place is = is
 
-  too_deep : (quantity : Quantity) (count : ℕ) → Parses text (Err (TooDeep quantity count)) → (tokens : List Lexeme) × Tokens text tokens × (depth_fault tokens ≡ Some (quantity, count))
+  too_deep : (quantity : Quantity) (count : ℕ) → Parses text (Err (TooDeep quantity count)) → (tokens : List Lexeme) × Tokens text tokens
+      × (depth_fault tokens ≡ Some (quantity, count))
   too_deep quantity count is = (is.tokens, is.of_text, is.deep)
 
-  no_program : (token : ℕ) → Parses text (Err (Refused token)) → (tokens : List Lexeme) × Tokens text tokens × (depth_fault tokens ≡ None) × ((q : RawProgram) → ¬ Derives tokens q) × LeavesAt tokens token
+  no_program : (token : ℕ) → Parses text (Err (Refused token)) → (tokens : List Lexeme) × Tokens text tokens × (depth_fault tokens ≡ None)
+      × ((q : RawProgram) → ¬ Derives tokens q) × LeavesAt tokens token
   no_program token is = (is.tokens, is.of_text, is.shallow, is.none, is.place)
 
 -- no text is left behind its end

@@ -10,7 +10,8 @@ use Rattle.dp_parse.proofs.rows.Build.{token, split}
 signs_are : map (λ w. symbol (token 1 w)) signs
     ≡ symbol.Other ∷ symbol.Other ∷ symbol.Plus ∷ symbol.Minus ∷ symbol.Star ∷ symbol.Slash ∷ symbol.Percent ∷ symbol.Not
     ∷ symbol.Less ∷ symbol.LessEqual ∷ symbol.Greater ∷ symbol.GreaterEqual ∷ symbol.Equal ∷ symbol.NotEqual ∷ symbol.And ∷ symbol.Or ∷ symbol.Assign
-    ∷ symbol.OpenParen ∷ symbol.CloseParen ∷ symbol.OpenBracket ∷ symbol.CloseBracket ∷ symbol.OpenBrace ∷ symbol.CloseBrace ∷ symbol.Comma ∷ symbol.Semicolon ∷ []
+    ∷ symbol.OpenParen ∷ symbol.CloseParen ∷ symbol.OpenBracket ∷ symbol.CloseBracket ∷ symbol.OpenBrace ∷ symbol.CloseBrace ∷ symbol.Comma
+    ∷ symbol.Semicolon ∷ []
 unfolding symbol is_one_of
 signs_are = refl
 

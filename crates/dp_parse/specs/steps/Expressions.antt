@@ -10,7 +10,7 @@ use Rattle.dp_parse.specs.declared.level.Level.{Level}
 use Rattle.dp_parse.specs.declared.level.Level.TheVariants as level
 use Rattle.dp_parse.specs.declared.level.Join.{Join}
 use Rattle.dp_tokens.specs.Symbols.{symbol_at}
-use Rattle.dp_parse.specs.Levels.{joined}
+use Rattle.dp_parse.specs.Levels.{joined_trees}
 use Rattle.dp_tokens.specs.Steps.{Parser, ◌>>=◌, ◌>>◌, ◌<$>◌, pure, refuse, peek, advance, eat, expect, name, separated}
 use Rattle.dp_parse.specs.steps.Operators.{join_at, prefix_at}
 use Rattle.dp_tokens.specs.Numbers.{number}
@@ -18,7 +18,7 @@ use Rattle.dp_tokens.specs.Numbers.{number}
 -- a chain goes on behind its first operands by the operators of a level
 abbrev pub longer : (RawExpr → Parser RawExpr) → Parser RawExpr → RawExpr → Option Join → Parser RawExpr
 longer again operand found None = pure found
-longer again operand found (Some join) = advance >> operand >>= (λ right. again (joined join found right))
+longer again operand found (Some join) = advance >> operand >>= (λ right. again (joined_trees join found right))
 
 -- the number bounds the turns
 unfoldable pub chain : Level → Parser RawExpr → ℕ → RawExpr → Parser RawExpr

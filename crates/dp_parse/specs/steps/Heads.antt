@@ -6,7 +6,7 @@ use Rattle.dp_tree.specs.declared.raw.RawStmt.{RawStmt}
 use Rattle.dp_tree.specs.declared.raw.RawStmt.TheVariants as tree
 use Rattle.dp_parse.specs.declared.head.Header.{Header}
 use Rattle.dp_tokens.specs.declared.symbol.Symbol.TheVariants.{Int, Assign, OpenParen, CloseParen, OpenBracket, CloseBracket, Semicolon}
-use Rattle.dp_tokens.specs.Steps.{Parser, ◌>>=◌, ◌>>◌, ◌<$>◌, pure, sees, expect, name}
+use Rattle.dp_tokens.specs.Steps.{Parser, ◌>>=◌, ◌>>◌, ◌<$>◌, pure, sees_symbol, expect, name}
 use Rattle.dp_parse.specs.steps.Expressions.{whole}
 
 -- the value after a `=`
@@ -35,7 +35,7 @@ assign_by name false = tree.Assign name <$> value
 
 -- an assignment, from behind its name on
 unfoldable pub assign : TreeName → Parser RawStmt
-assign name = λ ts. assign_by name (sees OpenBracket ts) ts
+assign name = λ ts. assign_by name (sees_symbol OpenBracket ts) ts
 
 unfoldable pub simple : Parser RawStmt
 simple = name >>= assign
@@ -46,7 +46,7 @@ first_by false = simple
 
 -- the initialiser of a `for`
 unfoldable pub first : Parser RawStmt
-first = λ ts. first_by (sees Int ts) ts
+first = λ ts. first_by (sees_symbol Int ts) ts
 
 -- what a `for` has in its parentheses
 unfoldable pub head : Parser Header

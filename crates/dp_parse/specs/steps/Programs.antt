@@ -7,10 +7,11 @@ use Rattle.dp_tree.specs.declared.raw.RawItem.{RawItem}
 use Rattle.dp_tree.specs.declared.raw.RawItem.TheVariants as item
 use Rattle.dp_tree.specs.declared.raw.RawProgram.{RawProgram}
 use Rattle.dp_tokens.specs.declared.symbol.Symbol.{Symbol}
-use Rattle.dp_tokens.specs.declared.symbol.Symbol.TheVariants.{Mark, Int, Void, Main, Return, Minus, Assign, OpenParen, CloseParen, OpenBracket, CloseBracket, OpenBrace, CloseBrace, Semicolon}
+use Rattle.dp_tokens.specs.declared.symbol.Symbol.TheVariants.{Mark, Int, Void, Main, Return, Minus, Assign, OpenParen, CloseParen, OpenBracket, CloseBracket}
+use Rattle.dp_tokens.specs.declared.symbol.Symbol.TheVariants.{OpenBrace, CloseBrace, Semicolon}
 use Rattle.dp_parse.specs.declared.item.Part.{Part}
 use Rattle.dp_parse.specs.declared.item.Part.TheVariants.{Item, Main as Body}
-use Rattle.dp_tokens.specs.Steps.{Parser, ◌>>=◌, ◌>>◌, ◌<$>◌, pure, refuse, peek, advance, sees, eat, expect, name, separated, many, given}
+use Rattle.dp_tokens.specs.Steps.{Parser, ◌>>=◌, ◌>>◌, ◌<$>◌, pure, refuse, peek, advance, sees_symbol, eat, expect, name, separated, many, given}
 use Rattle.dp_tokens.specs.Numbers.{number, sees_zero, negated}
 use Rattle.dp_parse.specs.steps.Statements.{statement, block}
 use Rattle.dp_parse.specs.steps.Regions.{region}
@@ -60,7 +61,7 @@ params_by true = pure []
 params_by false = eat Void >>= named_params_by
 
 unfoldable pub params : Parser (List TreeName)
-params = λ ts. params_by (sees CloseParen ts) ts
+params = λ ts. params_by (sees_symbol CloseParen ts) ts
 
 -- a function, from its name on
 unfoldable pub function : Parser RawItem
@@ -103,7 +104,7 @@ end = do
   pure tt
 
 unfoldable pub ends : List Lexeme → Bool
-ends ts = sees Return ts || sees CloseBrace ts
+ends ts = sees_symbol Return ts || sees_symbol CloseBrace ts
 
 -- `main`, from its parenthesis on
 unfoldable pub main_part : Parser (List RawStmt)

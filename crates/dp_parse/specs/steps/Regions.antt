@@ -5,7 +5,7 @@ use Rattle.dp_tree.specs.declared.raw.RawExpr.{RawExpr}
 use Rattle.dp_tree.specs.declared.raw.RawStmt.{RawStmt}
 use Rattle.dp_tree.specs.declared.raw.RawStmt.TheVariants as tree
 use Rattle.dp_tokens.specs.declared.symbol.Symbol.TheVariants.{While, For, If, Break, OpenBrace, CloseBrace, Semicolon}
-use Rattle.dp_tokens.specs.Steps.{Parser, ◌>>=◌, ◌>>◌, pure, rest, sees, expect, many}
+use Rattle.dp_tokens.specs.Steps.{Parser, ◌>>=◌, ◌>>◌, pure, rest, sees_symbol, expect, many}
 use Rattle.dp_parse.specs.steps.Heads.{head}
 use Rattle.dp_parse.specs.steps.Statements.{condition, block, otherwise}
 
@@ -26,7 +26,7 @@ braced line cond = do
 
 -- an exit in braces comes next
 unfoldable pub leads_out : List Lexeme → Bool
-leads_out ts = sees OpenBrace ts && sees Break (rest ts)
+leads_out ts = sees_symbol OpenBrace ts && sees_symbol Break (rest ts)
 
 module _ (statement : Parser RawStmt) where
   -- an `if` behind its condition
@@ -43,7 +43,7 @@ module _ (statement : Parser RawStmt) where
 
   -- what follows an `if` and its condition
   unfoldable pub tested : ℕ → RawExpr → Parser RawStmt
-  tested line cond = λ ts. tested_by line cond (sees Break ts) (leads_out ts) ts
+  tested line cond = λ ts. tested_by line cond (sees_symbol Break ts) (leads_out ts) ts
 
   unfoldable pub branch : Parser RawStmt
   branch = do
@@ -57,12 +57,12 @@ module _ (statement : Parser RawStmt) where
 
   -- a statement of a region's body
   unfoldable pub inside : Parser RawStmt
-  inside = λ ts. inside_by (sees If ts) ts
+  inside = λ ts. inside_by (sees_symbol If ts) ts
 
   unfoldable pub body : Parser (List RawStmt)
   body = do
     expect OpenBrace
-    found ← (λ ts. many (sees CloseBrace) inside (length ts) [] ts)
+    found ← (λ ts. many (sees_symbol CloseBrace) inside (length ts) [] ts)
     expect CloseBrace
     pure found
 
@@ -88,4 +88,4 @@ module _ (statement : Parser RawStmt) where
 
   -- a region, from behind its mark on
   unfoldable pub region : Parser RawStmt
-  region = λ ts. region_by (sees For ts) ts
+  region = λ ts. region_by (sees_symbol For ts) ts

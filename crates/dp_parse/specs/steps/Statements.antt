@@ -6,7 +6,7 @@ use Rattle.dp_tree.specs.declared.raw.RawStmt.{RawStmt}
 use Rattle.dp_tree.specs.declared.raw.RawStmt.TheVariants as tree
 use Rattle.dp_tokens.specs.declared.symbol.Symbol.{Symbol}
 use Rattle.dp_tokens.specs.declared.symbol.Symbol.TheVariants.{Name, Int, Print, While, For, If, Else, OpenParen, CloseParen, OpenBrace, CloseBrace, Semicolon}
-use Rattle.dp_tokens.specs.Steps.{Parser, ◌>>=◌, ◌>>◌, ◌<$>◌, pure, refuse, peek, sees, eat, expect, name, many}
+use Rattle.dp_tokens.specs.Steps.{Parser, ◌>>=◌, ◌>>◌, ◌<$>◌, pure, refuse, peek, sees_symbol, eat, expect, name, many}
 use Rattle.dp_parse.specs.steps.Expressions.{whole, list}
 use Rattle.dp_parse.specs.steps.Heads.{assign, declare, head}
 
@@ -22,7 +22,7 @@ arguments_by true = pure []
 arguments_by false = list
 
 unfoldable pub arguments : Parser (List RawExpr)
-arguments = λ ts. arguments_by (sees CloseParen ts) ts
+arguments = λ ts. arguments_by (sees_symbol CloseParen ts) ts
 
 unfoldable pub call : TreeName → Parser RawStmt
 call name = do
@@ -45,7 +45,7 @@ named_by name false = ended (assign name)
 
 -- a statement that begins with a name
 unfoldable pub named : Parser RawStmt
-named = name >>= (λ name. λ ts. named_by name (sees OpenParen ts) ts)
+named = name >>= (λ name. λ ts. named_by name (sees_symbol OpenParen ts) ts)
 
 unfoldable pub declaration : Parser RawStmt
 declaration = ended declare
@@ -62,7 +62,7 @@ module _ (statement : Parser RawStmt) where
   unfoldable pub block : Parser (List RawStmt)
   block = do
     expect OpenBrace
-    body ← (λ ts. many (sees CloseBrace) statement (length ts) [] ts)
+    body ← (λ ts. many (sees_symbol CloseBrace) statement (length ts) [] ts)
     expect CloseBrace
     pure body
 
@@ -87,7 +87,7 @@ module _ (statement : Parser RawStmt) where
   else_by false = block
 
   abbrev pub otherwise_by : Bool → Parser (List RawStmt)
-  otherwise_by true = λ ts. else_by (sees If ts) ts
+  otherwise_by true = λ ts. else_by (sees_symbol If ts) ts
   otherwise_by false = pure []
 
   -- what follows an `if` and its block

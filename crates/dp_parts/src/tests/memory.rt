@@ -30,18 +30,6 @@ fn slices_end_with_their_pages(rt: HostRuntime) -> Result<(), Fail> {
 }
 
 #[test]
-fn a_page_is_lent_for_writing_as_the_versions_own(rt: HostRuntime) -> Result<(), Fail> {
-    let mut first = Version::of(rt.alloc(), &Cells::new(rt.alloc(), 1_000)?)?;
-    let snapshot = first.snapshot(None)?;
-    let page = first.page_mut(CellId(300));
-    assert_eq!(&rt; page.len(), 256);
-    page[300 - 256] = 9;
-    assert_eq!(&rt; snapshot.get(CellId(300)), 0);
-    assert_eq!(&rt; first.get(CellId(300)), 9);
-    Ok(())
-}
-
-#[test]
 fn a_snapshot_in_the_room_of_a_spent_version_has_none_of_its_numbers(
     rt: HostRuntime,
 ) -> Result<(), Fail> {

@@ -8,7 +8,7 @@ use Rattle.dp_lean_machine.specs.Sent.{IsSent}
 use Rattle.dp_pipeline.specs.declared.supply.Supply.{Supply}
 use Rattle.dp_pipeline.specs.Carried.{lean_of}
 use Rattle.dp_pipeline.specs.Lanes.{ComesBack}
-use Rattle.dp_pipeline.specs.Sizes.{begins, size}
+use Rattle.dp_pipeline.specs.Sizes.{batch_begins, size}
 
 -- it gives batches of the epoch
 pub record Supplies (x : Supply) (key : UnitsKey) : Type 0 where
@@ -20,7 +20,7 @@ pub record Supplies (x : Supply) (key : UnitsKey) : Type 0 where
 -- It is what comes to stage 1 of each batch of such an epoch that begins with this iteration and may have so many.
 abbrev pub IsSupplied : Supply → ℕ → ℕ → LeanBatch → Type 0
 IsSupplied x first count batch =
-    (key : UnitsKey) (b : ℕ) → Supplies x key → first ≡ key.epoch.first + begins key b → count ≡ size key b → IsSent (lean_of key) 0 b batch
+    (key : UnitsKey) (b : ℕ) → Supplies x key → first ≡ key.epoch.first + batch_begins key b → count ≡ size key b → IsSent (lean_of key) 0 b batch
 
 -- how many iterations go together from this one on
 abbrev pub size_at : ℕ → ℕ → ℕ → ℕ → ℕ

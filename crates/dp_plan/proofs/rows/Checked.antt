@@ -7,7 +7,8 @@ use Rattle.dp_plan.specs.Checked.{is_checked}
 use Rattle.dp_plan.specs.Written.{region_sites}
 use Rattle.dp_tree.proofs.Build.{tree_opened}
 use Rattle.dp_tree.proofs.Programs.{zero_divisor, stale_read, skip_negative, histogram, two_stores, stale_step, stale_divisor, word_table_expanded}
-use Rattle.dp_plan.proofs.Plans.{plan, zero_divisor_plan, stale_read_plan, skip_negative_plan, histogram_plan, two_stores_plan, stale_step_plan, stale_divisor_plan, word_table_plan}
+use Rattle.dp_plan.proofs.Plans.{plan, zero_divisor_plan, stale_read_plan, skip_negative_plan, histogram_plan, two_stores_plan, stale_step_plan}
+use Rattle.dp_plan.proofs.Plans.{stale_divisor_plan, word_table_plan}
 
 abbrev checked : Program → Plan → List ℕ
 checked p plan = filter (is_checked p plan) (region_sites p plan.region)

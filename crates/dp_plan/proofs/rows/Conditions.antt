@@ -29,7 +29,8 @@ abbrev enclosing : ℕ → List ℕ → Enclosing
 enclosing site inside = record { site = site; inside = inside }
 
 ifs_everywhere : region_ifs forked 1
-    ≡ enclosing 2 (3 ∷ 4 ∷ 5 ∷ 6 ∷ 7 ∷ 8 ∷ 9 ∷ 10 ∷ 11 ∷ 12 ∷ 13 ∷ []) ∷ enclosing 3 (4 ∷ 5 ∷ 6 ∷ 7 ∷ []) ∷ enclosing 6 (7 ∷ []) ∷ enclosing 8 (9 ∷ 10 ∷ []) ∷ []
+    ≡ enclosing 2 (3 ∷ 4 ∷ 5 ∷ 6 ∷ 7 ∷ 8 ∷ 9 ∷ 10 ∷ 11 ∷ 12 ∷ 13 ∷ []) ∷ enclosing 3 (4 ∷ 5 ∷ 6 ∷ 7 ∷ []) ∷ enclosing 6 (7 ∷ [])
+    ∷ enclosing 8 (9 ∷ 10 ∷ []) ∷ []
 unfolding tree_opened
 ifs_everywhere = refl
 

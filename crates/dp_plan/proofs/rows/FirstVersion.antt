@@ -32,10 +32,13 @@ module _ (p : Program) (plan : Plan) (first : plan.proved ≡ false) where
   differ_same : (s u x : ℕ) → may_differ p plan s u x ≡ plainly p plan s x
   differ_same s u x =
       ap (λ (b : Bool). b || list_any (λ (d : Access). is_stored_beside p plan s x d && not (is_apart_between p plan u d.site)) (region_accesses p plan))
-      (any_alike (λ (d : Access). is_stored_after p plan s x d && not (is_apart p plan u d.site)) (is_stored_after p plan s x) (λ d. alone (is_stored_after p plan s x d) (is_apart p plan u d.site) (apart_none u d.site)) (region_accesses p plan))
+      (any_alike (λ (d : Access). is_stored_after p plan s x d && not (is_apart p plan u d.site)) (is_stored_after p plan s x)
+      (λ d. alone (is_stored_after p plan s x d) (is_apart p plan u d.site) (apart_none u d.site)) (region_accesses p plan))
       ∙ ap (λ (b : Bool). list_any (is_stored_after p plan s x) (region_accesses p plan) || b)
-      (any_alike (λ (d : Access). is_stored_beside p plan s x d && not (is_apart_between p plan u d.site)) (is_stored_beside p plan s x) (λ d. alone (is_stored_beside p plan s x d) (is_apart_between p plan u d.site) (between_none u d.site)) (region_accesses p plan))
+      (any_alike (λ (d : Access). is_stored_beside p plan s x d && not (is_apart_between p plan u d.site)) (is_stored_beside p plan s x)
+      (λ d. alone (is_stored_beside p plan s x d) (is_apart_between p plan u d.site) (between_none u d.site)) (region_accesses p plan))
 
   checked_same : (site : ℕ) → is_checked p plan site ≡ plainly_checked p plan site
   checked_same site = any_alike (is_checked_access p plan site) (λ (u : Access). (u.site == site) && list_any (plainly p plan (stage_of p plan site)) u.loads)
-      (λ u. ap (λ (b : Bool). (u.site == site) && b) (any_alike (may_differ p plan (stage_of p plan site) site) (plainly p plan (stage_of p plan site)) (differ_same (stage_of p plan site) site) u.loads)) (region_accesses p plan)
+      (λ u. ap (λ (b : Bool). (u.site == site) && b) (any_alike (may_differ p plan (stage_of p plan site) site) (plainly p plan (stage_of p plan site))
+      (differ_same (stage_of p plan site) site) u.loads)) (region_accesses p plan)

@@ -110,7 +110,8 @@ great_between = refl
 
 -- while (i < 4) { BODY }, with an array a, scalars s, i and w, and a body local b
 abbrev with_body : List Stmt → Program
-with_body body = program (array 0 9 ∷ scalar 9 (pos 0) Global ∷ scalar 10 (pos 0) Outer ∷ scalar 11 (pos 0) Outer ∷ scalar 12 (pos 0) (Body 1) ∷ []) [] (one_region 6 2 6) (region 1 2 (bin op.Lt (var 2) (num 4)) body ∷ [])
+with_body body = program (array 0 9 ∷ scalar 9 (pos 0) Global ∷ scalar 10 (pos 0) Outer ∷ scalar 11 (pos 0) Outer ∷ scalar 12 (pos 0) (Body 1) ∷ []) []
+    (one_region 6 2 6) (region 1 2 (bin op.Lt (var 2) (num 4)) body ∷ [])
 
 abbrev load_of : ℕ → ℕ → Stmt
 load_of site v = set site 1 (at 0 (var v))

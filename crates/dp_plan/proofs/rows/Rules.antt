@@ -9,8 +9,11 @@ use Rattle.dp_plan.specs.declared.Plan.{Plan}
 use Rattle.dp_plan.specs.Written.{WrittenPlan, plan_of, written_of}
 use Rattle.dp_plan.specs.Valid.{BrokenRule, first_broken, first_fault}
 use Rattle.dp_tree.proofs.Build.{num, var, bin, set, when, loop, region, scalar, program, assume, tree_opened}
-use Rattle.dp_tree.proofs.Programs.{sum_loop, zero_divisor, stale_read, same_value_store, skip_negative, histogram, two_stores, stale_step, stale_divisor, word_table_expanded}
-use Rattle.dp_plan.proofs.Plans.{seq, par, written, zero_divisor_written, zero_divisor_plan, stale_read_written, stale_read_plan, skip_negative_written, skip_negative_plan, histogram_written, histogram_plan, two_stores_written, two_stores_plan, stale_step_written, stale_step_plan, stale_divisor_written, stale_divisor_plan, word_table_written, word_table_plan}
+use Rattle.dp_tree.proofs.Programs.{sum_loop, zero_divisor, stale_read, same_value_store, skip_negative, histogram, two_stores, stale_step, stale_divisor}
+use Rattle.dp_tree.proofs.Programs.{word_table_expanded}
+use Rattle.dp_plan.proofs.Plans.{seq, par, written, zero_divisor_written, zero_divisor_plan, stale_read_written, stale_read_plan, skip_negative_written}
+use Rattle.dp_plan.proofs.Plans.{skip_negative_plan, histogram_written, histogram_plan, two_stores_written, two_stores_plan, stale_step_written}
+use Rattle.dp_plan.proofs.Plans.{stale_step_plan, stale_divisor_written, stale_divisor_plan, word_table_written, word_table_plan}
 
 -- the written plan is valid, stands for the plan, and is how that is written
 record Stands (p : Program) (w : WrittenPlan) (plan : Plan) : Type 0 where
@@ -138,10 +141,12 @@ abbrev in_region : ℕ → WrittenPlan → WrittenPlan
 in_region r w = record w { region = r }
 
 -- regions are tested one after the other: rule 9 of region 1 comes before rule 1 of region 2
-first_region_first : first_fault two_regions (written 4096 (seq (1 ∷ 2 ∷ 3 ∷ 4 ∷ []) ∷ []) (assume 3 true ∷ []) ∷ in_region 2 (written 4096 (seq (5 ∷ []) ∷ []) []) ∷ []) ≡ broken 9 3
+first_region_first : first_fault two_regions (written 4096 (seq (1 ∷ 2 ∷ 3 ∷ 4 ∷ []) ∷ []) (assume 3 true ∷ [])
+    ∷ in_region 2 (written 4096 (seq (5 ∷ []) ∷ []) []) ∷ []) ≡ broken 9 3
 unfolding tree_opened
 first_region_first = refl
 
-second_region_second : first_fault two_regions (written 4096 (seq (1 ∷ 2 ∷ 3 ∷ 4 ∷ []) ∷ []) [] ∷ in_region 2 (written 4096 (seq (5 ∷ 7 ∷ 8 ∷ []) ∷ []) []) ∷ []) ≡ broken 1 6
+second_region_second : first_fault two_regions (written 4096 (seq (1 ∷ 2 ∷ 3 ∷ 4 ∷ []) ∷ []) []
+    ∷ in_region 2 (written 4096 (seq (5 ∷ 7 ∷ 8 ∷ []) ∷ []) []) ∷ []) ≡ broken 1 6
 unfolding tree_opened
 second_region_second = refl

@@ -34,7 +34,10 @@ with_assumption = record {
       most_words = omega arith;
       some_stage = omega arith;
       few_stages = omega arith;
-      stages = ((omega arith, (omega arith, omega arith, (omega arith, omega arith, (omega arith, omega arith, tt)))), ((omega arith, (omega arith, omega arith, (omega arith, omega arith, (omega arith, omega arith, tt)))), tt));
+      stages = (
+        (omega arith, (omega arith, omega arith, (omega arith, omega arith, (omega arith, omega arith, tt)))),
+        ((omega arith, (omega arith, omega arith, (omega arith, omega arith, (omega arith, omega arith, tt)))), tt),
+      );
       assume = ((omega arith, omega arith), tt);
     },
     tt,
@@ -52,7 +55,10 @@ with_replicated_stage = record {
       most_words = omega arith;
       some_stage = omega arith;
       few_stages = omega arith;
-      stages = ((omega arith, (omega arith, omega arith, (omega arith, omega arith, (omega arith, omega arith, tt)))), ((omega arith, (omega arith, omega arith, tt)), ((omega arith, (omega arith, omega arith, tt)), tt)));
+      stages = (
+        (omega arith, (omega arith, omega arith, (omega arith, omega arith, (omega arith, omega arith, tt)))),
+        ((omega arith, (omega arith, omega arith, tt)), ((omega arith, (omega arith, omega arith, tt)), tt)),
+      );
       assume = tt;
     },
     tt,

@@ -8,7 +8,7 @@ use Rattle.dp_plan_text.specs.declared.PlanFail.TheVariants.{Refused, Invalid, N
 use Rattle.dp_plan_text.specs.declared.reader.Reader.{Reader}
 use Rattle.dp_plan_text.specs.declared.WrittenPlans.{WrittenPlans}
 use Rattle.dp_plan_text.specs.PlanText.{PlanText}
-use Rattle.dp_plan_text.specs.Refused.{IsRefused}
+use Rattle.dp_plan_text.specs.Refused.{IsRefusedPlans}
 
 -- the plans and their version, where the text is over; else its refusal
 abbrev pub finished : Reading Reader → Result WrittenPlans PlanFail
@@ -18,6 +18,6 @@ finished (reading.Refused line) = Err (Refused line)
 -- the plans of a text, or its refusal
 abbrev pub ReadsText : Program → List ℕ → Result WrittenPlans PlanFail → Type 0
 ReadsText p bytes (Ok text) = PlanText p bytes text.proved text.plans
-ReadsText p bytes (Err (Refused line)) = IsRefused p bytes line
+ReadsText p bytes (Err (Refused line)) = IsRefusedPlans p bytes line
 ReadsText p bytes (Err (Invalid rule site)) = ⊥
 ReadsText p bytes (Err NoMemory) = Unit {0}

@@ -6,7 +6,7 @@ use Rattle.dp_plan.specs.declared.StageKind.{StageKind}
 use Rattle.dp_plan.specs.declared.StageKind.TheVariants.{Seq, Par}
 use Rattle.dp_plan_text.specs.declared.line.Line.{Line}
 use Rattle.dp_plan_text.specs.declared.line.Line.TheVariants as line
-use Rattle.dp_text.specs.Words.{number_of}
+use Rattle.dp_text.specs.Words.{small_number}
 
 -- a site that a word writes, where it is above another
 abbrev pub above : ℕ → Option ℕ → Option ℕ
@@ -26,7 +26,7 @@ site_before (Some site) later = onto_sites site (later site)
 -- sites that ascend strictly from above `low`
 abbrev pub sites_above : ℕ → List (List ℕ) → Option (List ℕ)
 sites_above low [] = Some []
-sites_above low (word ∷ rest) = site_before (above low (number_of word)) (λ site. sites_above site rest)
+sites_above low (word ∷ rest) = site_before (above low (small_number word)) (λ site. sites_above site rest)
 
 abbrev pub stage_line : StageKind → Option (List ℕ) → Option Line
 stage_line kind None = None
@@ -44,7 +44,7 @@ abbrev pub region_labelled : List ℕ → Option ℕ → Option ℕ → Option L
 region_labelled label r w = if bytes_eq label (codes "words") then region_of r w else None
 
 abbrev pub region_line : List (List ℕ) → Option Line
-region_line (r ∷ label ∷ w ∷ []) = region_labelled label (number_of r) (number_of w)
+region_line (r ∷ label ∷ w ∷ []) = region_labelled label (small_number r) (small_number w)
 region_line _ = None
 
 -- the outcome that a number stands for
@@ -58,7 +58,7 @@ assume_of (Some site) None = None
 assume_of (Some site) (Some taken) = Some (line.Assume (record { site = record { 0 = site }; taken = taken }))
 
 abbrev pub assume_line : List (List ℕ) → Option Line
-assume_line (site ∷ taken ∷ []) = assume_of (above 0 (number_of site)) (outcome (number_of taken))
+assume_line (site ∷ taken ∷ []) = assume_of (above 0 (small_number site)) (outcome (small_number taken))
 assume_line _ = None
 
 -- the first line, by the version that it names

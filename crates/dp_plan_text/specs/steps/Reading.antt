@@ -42,10 +42,31 @@ abbrev pub closed : Reader → List WrittenPlan
 closed s = if s.last.region == 0 then s.plans else (s.plans ++ s.last ∷ [])
 
 abbrev pub with_stage : Reader → WrittenStage → Reader
-with_stage s stage = record { phase = s.phase; proved = s.proved; plans = s.plans; last = record { region = s.last.region; words = s.last.words; stages = s.last.stages ++ stage ∷ []; assume = s.last.assume } }
+with_stage s stage =
+    record {
+      phase = s.phase;
+      proved = s.proved;
+      plans = s.plans;
+      last = record {
+        region = s.last.region;
+        words = s.last.words;
+        stages = s.last.stages ++ stage ∷ [];
+        assume = s.last.assume;
+      };
+    }
 
 abbrev pub with_assume : Reader → Assume → Reader
-with_assume s a = record { phase = s.phase; proved = s.proved; plans = s.plans; last = record { region = s.last.region; words = s.last.words; stages = s.last.stages; assume = s.last.assume ++ a ∷ [] } }
+with_assume s a = record {
+  phase = s.phase;
+  proved = s.proved;
+  plans = s.plans;
+  last = record {
+    region = s.last.region;
+    words = s.last.words;
+    stages = s.last.stages;
+    assume = s.last.assume ++ a ∷ [];
+  };
+}
 
 abbrev pub with_region : Reader → ℕ → ℕ → Reader
 with_region s r w = record { phase = phase.Inside; proved = s.proved; plans = closed s; last = record { region = r; words = w; stages = []; assume = [] } }

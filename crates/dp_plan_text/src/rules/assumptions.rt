@@ -92,7 +92,8 @@ fn wrongly_assumed(
 
 /// The first of the three rules that the plan breaks.
 pub fn broken(alloc: Global, p: &Program, w: &WrittenPlan) -> Result<Option<BrokenRule>, NoMemory>
-    ensures { IfOk result (λ broken. broken ≡ broken_from 7 (rules.late_while p.now w.now ∷ rules.late_if p.now w.now ∷ rules.wrongly_assumed p.now w.now ∷ [])) }
+    ensures { IfOk result (λ broken. broken ≡ broken_from 7 (rules.late_while p.now w.now ∷ rules.late_if p.now w.now
+        ∷ rules.wrongly_assumed p.now w.now ∷ [])) }
 {
     let whiles = inner_whiles_of(alloc, p, w.region)?;
     if let Some(site) = late_while(w, whiles.as_slice()) {

@@ -14,7 +14,7 @@ use std::alloc::Global;
 
 /// The sites that the lines list, as often as they stand.
 fn listed(alloc: Global, w: &WrittenPlan) -> Result<Row<u32>, NoMemory>
-    ensures { IfOk result (λ sites. sites ≡ written.listed w.now) }
+    ensures { IfOk result (λ sites. sites ≡ written.listed_sites w.now) }
 {
     let mut sites = Row::new(alloc);
     let lines = w.stages.as_slice();

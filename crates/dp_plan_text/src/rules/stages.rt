@@ -66,7 +66,8 @@ fn neighbours_replicated(lines: &[WrittenStage]) -> Option<u32>
 
 /// The first of the three rules that the plan breaks.
 pub fn broken(alloc: Global, p: &Program, w: &WrittenPlan) -> Result<Option<BrokenRule>, NoMemory>
-    ensures { IfOk result (λ broken. broken ≡ broken_from 4 (rules.condition_later p.now w.now ∷ rules.first_replicated p.now w.now ∷ rules.neighbours_replicated w.now ∷ [])) }
+    ensures { IfOk result (λ broken. broken ≡ broken_from 4 (rules.condition_later p.now w.now ∷ rules.first_replicated p.now w.now
+        ∷ rules.neighbours_replicated w.now ∷ [])) }
 {
     let site = condition(alloc, p, w.region)?;
     if written_stage(w, site) != 1 {

@@ -13,7 +13,8 @@ abbrev condition : ℕ → RegionSite
 condition n = region_site (record { 0 = n }) true
 
 -- while (1) { a[0] = 1; if (1) { print(1); } else { x = 1; } while (1) { if (1) break; } }
-each_form : sites (region 1 2 (num 1) (set_at 3 0 (num 0) (num 1) ∷ stmt.If (record { 0 = 4 }) (num 1) (say 5 (num 1) ∷ []) (set 6 1 (num 1) ∷ []) ∷ loop 7 (num 1) (stmt.Break (record { 0 = 8 }) (num 1) ∷ []) ∷ []))
+each_form : sites (region 1 2 (num 1) (set_at 3 0 (num 0) (num 1) ∷ stmt.If (record { 0 = 4 }) (num 1) (say 5 (num 1) ∷ []) (set 6 1 (num 1) ∷ [])
+    ∷ loop 7 (num 1) (stmt.Break (record { 0 = 8 }) (num 1) ∷ []) ∷ []))
     ≡ condition 2 ∷ plain 3 ∷ condition 4 ∷ plain 5 ∷ plain 6 ∷ condition 7 ∷ condition 8 ∷ []
 unfolding tree_opened
 each_form = refl
@@ -51,7 +52,8 @@ profile_of_no_region fits = fits
 region_without_profile : RegionsFit ([] ∷ []) [] → ⊥
 region_without_profile fits = fits
 
-behind_intra : map (is_before (flow 3 4 false 1)) (flow 2 5 true 2 ∷ flow 3 3 true 2 ∷ flow 3 4 false 2 ∷ flow 3 4 true 1 ∷ flow 3 5 false 1 ∷ flow 4 1 false 1 ∷ [])
+behind_intra : map (is_before (flow 3 4 false 1)) (flow 2 5 true 2 ∷ flow 3 3 true 2 ∷ flow 3 4 false 2 ∷ flow 3 4 true 1 ∷ flow 3 5 false 1
+    ∷ flow 4 1 false 1 ∷ [])
     ≡ false ∷ false ∷ false ∷ true ∷ true ∷ true ∷ []
 behind_intra = refl
 

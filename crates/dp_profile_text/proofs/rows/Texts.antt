@@ -20,6 +20,7 @@ branch_not_taken : profile_text skip_negative skip_negative_shown
 unfolding tree_opened Rattle.std.specs.Fmt.digits
 branch_not_taken = refl
 
-two_regions : profile_text two_loops two_loops_shown ≡ codes "profile 1\nregion 1\nruns 2 2 1\nruns 3 1 0\nflow 3 2 carried 1\nregion 2\nruns 5 2 1\nruns 6 1 0\nflow 6 5 carried 1\nend\n"
+two_regions : profile_text two_loops two_loops_shown ≡ codes
+    "profile 1\nregion 1\nruns 2 2 1\nruns 3 1 0\nflow 3 2 carried 1\nregion 2\nruns 5 2 1\nruns 6 1 0\nflow 6 5 carried 1\nend\n"
 unfolding tree_opened Rattle.std.specs.Fmt.digits
 two_regions = refl

@@ -3,7 +3,7 @@ use Rattle.std.specs.Prelude.{ℕ, if◌then◌else◌, Bool, true, false, nat_l
 use Rattle.std.specs.Str.{bytes_eq}
 use Rattle.dp_profile_text.specs.declared.line.Line.{Line}
 use Rattle.dp_profile_text.specs.declared.line.Line.TheVariants as line
-use Rattle.dp_text.specs.Words.{number_of, number_upto}
+use Rattle.dp_text.specs.Words.{small_number, number_upto}
 use Rattle.dp_profile.specs.ProfileFits.{most_count}
 
 -- a count
@@ -15,7 +15,7 @@ region_of None = None
 region_of (Some r) = Some (line.Region r)
 
 abbrev pub region_line : List (List ℕ) → Option Line
-region_line (r ∷ []) = region_of (number_of r)
+region_line (r ∷ []) = region_of (small_number r)
 region_line _ = None
 
 -- a site's counts
@@ -27,7 +27,7 @@ runs_of (Some site) (Some runs) (Some nonzero) =
     if nat_le nonzero runs then Some (line.Runs (record { 0 = site }) (record { runs = runs; nonzero = nonzero })) else None
 
 abbrev pub runs_line : List (List ℕ) → Option Line
-runs_line (site ∷ runs ∷ nonzero ∷ []) = runs_of (number_of site) (count runs) (count nonzero)
+runs_line (site ∷ runs ∷ nonzero ∷ []) = runs_of (small_number site) (count runs) (count nonzero)
 runs_line _ = None
 
 -- whether the word says that the store was of an earlier iteration
@@ -43,7 +43,7 @@ flow_of (Some from) (Some to) (Some carried) (Some shown) =
     if nat_lt 0 shown then Some (line.Flow (record { from = record { 0 = from }; to = record { 0 = to }; carried = carried; shown = shown })) else None
 
 abbrev pub flow_line : List (List ℕ) → Option Line
-flow_line (from ∷ to ∷ carried ∷ shown ∷ []) = flow_of (number_of from) (number_of to) (kind carried) (count shown)
+flow_line (from ∷ to ∷ carried ∷ shown ∷ []) = flow_of (small_number from) (small_number to) (kind carried) (count shown)
 flow_line _ = None
 
 abbrev pub head_of : List ℕ → Option Line

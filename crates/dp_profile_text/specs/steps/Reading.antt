@@ -1,5 +1,6 @@
 -- Which lines may follow one another.
-use Rattle.std.specs.Prelude.{ℕ, ◌-◌, ◌==◌, if◌then◌else◌, Bool, true, false, ◌&&◌, ◌||◌, nat_le, nat_lt, List, [], ◌∷◌, ◌++◌, length, Option, Some, None, slice_get}
+use Rattle.std.specs.Prelude.{ℕ, ◌-◌, ◌==◌, if◌then◌else◌, Bool, true, false, ◌&&◌, ◌||◌, nat_le, nat_lt, List, [], ◌∷◌, ◌++◌, length, Option, Some, None}
+use Rattle.std.specs.Prelude.{slice_get}
 use Rattle.dp_base.specs.declared.SiteId.{SiteId}
 use Rattle.dp_profile.specs.declared.RegionProfile.{RegionProfile}
 use Rattle.dp_profile.specs.declared.SiteCount.{SiteCount}
@@ -11,7 +12,7 @@ use Rattle.dp_profile_text.specs.declared.reader.Phase.{Phase}
 use Rattle.dp_profile_text.specs.declared.reader.Phase.TheVariants as phase
 use Rattle.dp_profile.specs.Observed.{nothing_shown}
 use Rattle.dp_profile.specs.declared.sites.RegionSite.{RegionSite}
-use Rattle.dp_profile.specs.Sites.{has_site}
+use Rattle.dp_profile.specs.Sites.{has_numbered_site}
 use Rattle.dp_profile.specs.ProfileFits.{is_before}
 
 abbrev pub state : Phase → List RegionProfile → RegionProfile → Reader
@@ -84,7 +85,7 @@ last_flow flows = slice_get flows (length flows - 1)
 
 -- the flow is between sites of the last region, and comes behind the others
 abbrev pub flows_next : List (List RegionSite) → Reader → Flow → Bool
-flows_next all s f = has_site f.from.0 (last_sites all s) && (has_site f.to.0 (last_sites all s) && is_behind (last_flow s.last.flows) f)
+flows_next all s f = has_numbered_site f.from.0 (last_sites all s) && (has_numbered_site f.to.0 (last_sites all s) && is_behind (last_flow s.last.flows) f)
 
 abbrev pub with_count : Reader → SiteCount → Reader
 with_count s c = state s.phase s.done (record { sites = s.last.sites ++ c ∷ []; flows = s.last.flows })

@@ -4,7 +4,8 @@ use Rattle.std.specs.Prelude.{codes}
 use Rattle.dp_base.specs.declared.Quantity.TheVariants.{LogBytes, CheckpointBytes, ListBytes}
 use Rattle.dp_refusal.specs.declared.role.Role.TheVariants as role
 use Rattle.dp_refusal.specs.declared.offence.Offence.TheVariants.{NotArray}
-use Rattle.dp_refusal.specs.declared.refusal.Refusal.TheVariants.{Words, Byte, Syntax, Name, InputWord, ListLine, BatchWord, PlanLine, PlanRule, ProfileLine, CheckpointLine, Limit}
+use Rattle.dp_refusal.specs.declared.refusal.Refusal.TheVariants.{Words, Byte, Syntax, Name, InputWord, ListLine, BatchWord, PlanLine, PlanRule, ProfileLine}
+use Rattle.dp_refusal.specs.declared.refusal.Refusal.TheVariants.{CheckpointLine, Limit}
 use Rattle.dp_refusal.specs.Refusal.{failed_read_line, refusal_line, refusal_status}
 
 words : refusal_line Words ≡ codes "refused words\n"

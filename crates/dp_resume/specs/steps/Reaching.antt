@@ -17,7 +17,7 @@ use Rattle.dp_epoch.specs.declared.ends.RegionEnd.TheVariants as region_end
 use Rattle.dp_epoch.specs.Progress.{Progress, report_before}
 use Rattle.dp_epoch.specs.RegionRun.{RegionRan, region_run}
 use Rattle.dp_audit.specs.declared.runner.Runner.{Runner}
-use Rattle.dp_audit.specs.Runs.{Stands}
+use Rattle.dp_audit.specs.Runs.{RegionStands}
 
 -- what the run prints up to so many steps, or in all
 abbrev pub prints_until : Run → Option ℕ → List ℤ
@@ -44,7 +44,7 @@ pub record EndsBefore (p : Program) (plan : Plan) (first last : MachineState) (n
 
 -- where the next iteration behind n of them leads
 abbrev pub Steps : Program → Plan → List ℤ → MachineState → ℕ → Runner → Option RegionEnd → Type 0
-Steps p plan input first n r None = Stands p plan input first (n + 1) r
+Steps p plan input first n r None = RegionStands p plan input first (n + 1) r
 Steps p plan input first n r (Some end) = EndsBefore p plan first (machine_of r) (n + 1) r.ledger.account.report end
 
 -- The first n iterations were made, and are reported without causes, and the machine stands before the next one.

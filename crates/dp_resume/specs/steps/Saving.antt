@@ -21,4 +21,5 @@ made_by m = m.fuel - fuel_left m
 -- .. or the prints up to the checkpoint after k steps, and this
 abbrev pub left_from : Program → List Plan → List ℤ → ℕ → ℕ → MachineState → Option ℕ → List ℕ
 left_from p plans input r n m None = ending_from p plans input m
-left_from p plans input r n m (Some k) = prints_bytes (prints (take (k - made_by m) (rest_of_run m).trace)) ++ checkpoint_bytes (checkpoint_at p plans input m.fuel r n k)
+left_from p plans input r n m (Some k) =
+    prints_bytes (prints (take (k - made_by m) (rest_of_run m).trace)) ++ checkpoint_bytes (checkpoint_at p plans input m.fuel r n k)

@@ -1,8 +1,8 @@
 //! The four changes of a slot, each with the change of its word that gives the slot back.
 ghost use Rattle.std.specs.Prelude.{◌≡◌, ◌+◌, [], ◌∷◌, true, false, Some, None};
 ghost use Rattle.dp_ring.specs.declared.view.Phase.TheVariants.{Putting, Taking, Giving, Collecting};
-ghost use Rattle.dp_ring.specs.Views.{face, after_put, after_take, after_give, after_collect};
-ghost use Rattle.dp_ring.specs.Desks.{view, carried, HasTurn, HasFree, HasFull};
+ghost use Rattle.dp_ring.specs.Views.{face, view_after_put, after_take, after_give, after_collect};
+ghost use Rattle.dp_ring.specs.Desks.{view, lent_slots, HasTurn, HasFree, HasFull};
 
 use super::Desk;
 use crate::item::RingItem;
@@ -11,9 +11,9 @@ use crate::plays::{Collects, GivesOn, PutsIn, TakesOut};
 impl<T: RingItem> Desk<T> {
     /// Puts something into a slot that is lent to the seat, and takes out what was there.
     fn swap(&mut self, slot: usize, item: Option<T>) -> Option<T>
-        requires { (y : _) × (carried self.old ≡ (slot, y) ∷ []) }
-        ensures item { carried self.old ≡ (slot, result) ∷ [] }
-        ensures carried { carried self.new ≡ (slot, item) ∷ [] }
+        requires { (y : _) × (lent_slots self.old ≡ (slot, y) ∷ []) }
+        ensures item { lent_slots self.old ≡ (slot, result) ∷ [] }
+        ensures carried { lent_slots self.new ≡ (slot, item) ∷ [] }
         ensures ring { self.new.seat.table_id ≡ self.old.seat.table_id }
         ensures same { (self.new.size ≡ self.old.size) × (view self.new ≡ view self.old) }
     {
@@ -22,8 +22,8 @@ impl<T: RingItem> Desk<T> {
 
     /// Puts an item into the lent slot, which is free.
     fn fill(&mut self, slot: usize, item: T)
-        requires { carried self.old ≡ (slot, None) ∷ [] }
-        ensures carried { carried self.new ≡ (slot, Some item) ∷ [] }
+        requires { lent_slots self.old ≡ (slot, None) ∷ [] }
+        ensures carried { lent_slots self.new ≡ (slot, Some item) ∷ [] }
         ensures ring { self.new.seat.table_id ≡ self.old.seat.table_id }
         ensures same { (self.new.size ≡ self.old.size) × (view self.new ≡ view self.old) }
     {
@@ -36,8 +36,8 @@ impl<T: RingItem> Desk<T> {
     /// Takes the item out of the lent slot.
     fn empty(&mut self, slot: usize) -> T
         requires { HasFull slot self.old }
-        ensures item { carried self.old ≡ (slot, Some result) ∷ [] }
-        ensures carried { carried self.new ≡ (slot, None) ∷ [] }
+        ensures item { lent_slots self.old ≡ (slot, Some result) ∷ [] }
+        ensures carried { lent_slots self.new ≡ (slot, None) ∷ [] }
         ensures ring { self.new.seat.table_id ≡ self.old.seat.table_id }
         ensures same { (self.new.size ≡ self.old.size) × (view self.new ≡ view self.old) }
     {
@@ -51,8 +51,8 @@ impl<T: RingItem> Desk<T> {
         requires item { (k : T.Key) → (view self.old).key ≡ Some k → T.is_put k (view self.old).at item }
         ensures ring { self.new.seat.table_id ≡ self.old.seat.table_id }
         ensures size { self.new.size ≡ self.old.size }
-        ensures view { (k : T.Key) → (view self.old).key ≡ Some k → view self.new ≡ after_put (T.is_ending k item) (view self.old) }
-        ensures carried { carried self.new ≡ [] }
+        ensures view { (k : T.Key) → (view self.old).key ≡ Some k → view self.new ≡ view_after_put (T.is_ending k item) (view self.old) }
+        ensures carried { lent_slots self.new ≡ [] }
     {
         self.fill(slot, item);
         self.table
@@ -66,9 +66,9 @@ impl<T: RingItem> Desk<T> {
         requires number { number ≡ face self.old.size ((view self.old).at + self.old.size) false }
         ensures ring { self.new.seat.table_id ≡ self.old.seat.table_id }
         ensures size { self.new.size ≡ self.old.size }
-        ensures item { carried self.old ≡ (slot, Some result) ∷ [] }
+        ensures item { lent_slots self.old ≡ (slot, Some result) ∷ [] }
         ensures view { view self.new ≡ after_take (view self.old) }
-        ensures carried { carried self.new ≡ [] }
+        ensures carried { lent_slots self.new ≡ [] }
     {
         let item = self.empty(slot);
         self.table
@@ -85,7 +85,7 @@ impl<T: RingItem> Desk<T> {
         ensures ring { self.new.seat.table_id ≡ self.old.seat.table_id }
         ensures size { self.new.size ≡ self.old.size }
         ensures view { (k : T.Key) → (view self.old).key ≡ Some k → view self.new ≡ after_give (T.is_ending k item) (view self.old) }
-        ensures carried { carried self.new ≡ [] }
+        ensures carried { lent_slots self.new ≡ [] }
     {
         self.fill(slot, item);
         self.table
@@ -99,9 +99,9 @@ impl<T: RingItem> Desk<T> {
         requires number { number ≡ face self.old.size ((view self.old).at + self.old.size) false }
         ensures ring { self.new.seat.table_id ≡ self.old.seat.table_id }
         ensures size { self.new.size ≡ self.old.size }
-        ensures item { carried self.old ≡ (slot, Some result) ∷ [] }
+        ensures item { lent_slots self.old ≡ (slot, Some result) ∷ [] }
         ensures view { view self.new ≡ after_collect (view self.old) }
-        ensures carried { carried self.new ≡ [] }
+        ensures carried { lent_slots self.new ≡ [] }
     {
         let given = self.empty(slot);
         self.table

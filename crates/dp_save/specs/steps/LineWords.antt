@@ -1,11 +1,12 @@
 -- What a line's words say.
-use Rattle.std.specs.Prelude.{ℕ, ◌+◌, ◌-◌, ◌^◌, ◌==◌, min, if◌then◌else◌, Bool, true, false, ◌&&◌, nat_le, nat_lt, List, [], ◌∷◌, length, codes, ℤ, pos, neg_ℤ, Option, Some, None}
+use Rattle.std.specs.Prelude.{ℕ, ◌+◌, ◌-◌, ◌^◌, ◌==◌, min, if◌then◌else◌, Bool, true, false, ◌&&◌, nat_le, nat_lt, List, [], ◌∷◌, length, codes, ℤ, pos, neg_ℤ}
+use Rattle.std.specs.Prelude.{Option, Some, None}
 use Rattle.std.specs.Str.{bytes_eq}
 use Rattle.dp_base.specs.Arithmetic.{fits}
 use Rattle.dp_base.specs.declared.RegionReport.{RegionReport}
 use Rattle.dp_base.specs.declared.limits.TheConstants.{FUEL, LISTED}
 use Rattle.dp_text.specs.Lines.{onto_text}
-use Rattle.dp_text.specs.Words.{number_of, number_upto}
+use Rattle.dp_text.specs.Words.{small_number, number_upto}
 use Rattle.dp_save.specs.declared.line.Place.{Place}
 
 -- a line of a text; that of the memory has its words and the values that they write
@@ -50,7 +51,7 @@ place_from (Some region) (Some after) (Some steps) (Some fuel) = Some (record { 
 
 abbrev pub place_of : List (List ℕ) → Option Place
 place_of (region ∷ a ∷ after ∷ s ∷ steps ∷ f ∷ fuel ∷ []) =
-    if are_labels a s f then place_from (number_of region) (count after) (count steps) (count fuel) else None
+    if are_labels a s f then place_from (small_number region) (count after) (count steps) (count fuel) else None
 place_of _ = None
 
 -- ---- a value
@@ -106,7 +107,7 @@ report_from (Some region) (Some iterations) (Some again) (Some numbers) =
 
 -- the report of these words and the numbers behind them
 abbrev pub report_by : List ℕ → List ℕ → List ℕ → List (List ℕ) → Option RegionReport
-report_by region iterations again numbers = report_from (number_of region) (count iterations) (counted again numbers) (each_read count numbers)
+report_by region iterations again numbers = report_from (small_number region) (count iterations) (counted again numbers) (each_read count numbers)
 
 abbrev pub report_of : List (List ℕ) → Option RegionReport
 report_of (region ∷ i ∷ iterations ∷ r ∷ again ∷ numbers) =

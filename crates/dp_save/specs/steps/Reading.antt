@@ -1,5 +1,6 @@
 -- Which lines may follow one another.
-use Rattle.std.specs.Prelude.{ℕ, ◌-◌, ◌==◌, if◌then◌else◌, Bool, true, false, not, ◌&&◌, ◌||◌, nat_le, nat_lt, List, [], ◌∷◌, ◌++◌, length, ℤ, Option, Some, None, slice_get}
+use Rattle.std.specs.Prelude.{ℕ, ◌-◌, ◌==◌, if◌then◌else◌, Bool, true, false, not, ◌&&◌, ◌||◌, nat_le, nat_lt, List, [], ◌∷◌, ◌++◌, length, ℤ, Option, Some}
+use Rattle.std.specs.Prelude.{None, slice_get}
 use Rattle.std.specs.List.{list_all}
 use Rattle.dp_base.specs.Arithmetic.{is_zero}
 use Rattle.dp_base.specs.declared.RegionReport.{RegionReport}
@@ -79,7 +80,8 @@ cells_fit vars cells = (length (start_cells vars) == length cells) && list_all (
 
 -- the report is that of the next region up to the checkpoint's own
 abbrev pub is_next : Checkpoint → RegionReport → Bool
-is_next c r = nat_lt 0 r.region && ((length c.reports == r.region - 1) && (nat_le r.region c.region && (not (r.region == c.region) || (r.iterations == c.after))))
+is_next c r = nat_lt 0 r.region
+    && ((length c.reports == r.region - 1) && (nat_le r.region c.region && (not (r.region == c.region) || (r.iterations == c.after))))
 
 abbrev pub in_phase : Phase → Reader → Reader
 in_phase at s = state at s.so_far

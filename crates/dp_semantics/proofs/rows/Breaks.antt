@@ -40,7 +40,8 @@ memory_when_left : (memory_after (source_run early_exit negative 10000) 1 2 ≡ 
 unfolding tree_opened
 memory_when_left = (refl, refl)
 
-late_again : (recovered early_exit late_break (source_run early_exit negative 10000) ≡ 1 ∷ []) × (cause early_exit late_break (source_run early_exit negative 10000) 1 ≡ ByAssumption 4)
+late_again : (recovered early_exit late_break (source_run early_exit negative 10000) ≡ 1 ∷ [])
+    × (cause early_exit late_break (source_run early_exit negative 10000) 1 ≡ ByAssumption 4)
 unfolding tree_opened
 late_again = (refl, refl)
 
@@ -48,7 +49,8 @@ early_never : recovered early_exit early_break (source_run early_exit negative 1
 unfolding tree_opened
 early_never = refl
 
-untaken : (recovered early_exit late_break (source_run early_exit positive 10000) ≡ []) × (recovered early_exit early_break (source_run early_exit positive 10000) ≡ [])
+untaken : (recovered early_exit late_break (source_run early_exit positive 10000) ≡ [])
+    × (recovered early_exit early_break (source_run early_exit positive 10000) ≡ [])
 unfolding tree_opened
 untaken = (refl, refl)
 
@@ -62,7 +64,8 @@ unfolding tree_opened
 cut_again = (refl, refl)
 
 -- the packets of the closing iteration, judged
-early_judged : judgement_at early_exit early_break negative (source_run early_exit negative 10000) 0 1 6 ≡ Clean (record { effects = Decided (pos 1) ∷ Stored 2 (negsuc 0) ∷ Tried (pos 1) ∷ []; sites = 2 ∷ 3 ∷ 4 ∷ []; closing = true })
+early_judged : judgement_at early_exit early_break negative (source_run early_exit negative 10000) 0 1 6 ≡ Clean
+    (record { effects = Decided (pos 1) ∷ Stored 2 (negsuc 0) ∷ Tried (pos 1) ∷ []; sites = 2 ∷ 3 ∷ 4 ∷ []; closing = true })
 unfolding tree_opened Rattle.dp_semantics.specs.StageRun.turn_from Rattle.dp_semantics.specs.Judge.judge_from
 early_judged = refl
 

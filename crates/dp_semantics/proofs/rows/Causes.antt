@@ -31,11 +31,13 @@ unfolding tree_opened
 broken_assumption = refl
 
 -- a stale load comes before the words that follow it
-too_many_words : (cause_in stale_step (stale_step_plan 19) [] 10000 1 ≡ ByLoad 5 0 (pos 0) (pos 2)) × (cause_in stale_step (stale_step_plan 19) [] 10000 2 ≡ ByWords 1 8)
+too_many_words : (cause_in stale_step (stale_step_plan 19) [] 10000 1 ≡ ByLoad 5 0 (pos 0) (pos 2))
+    × (cause_in stale_step (stale_step_plan 19) [] 10000 2 ≡ ByWords 1 8)
 unfolding tree_opened
 too_many_words = (refl, refl)
 
-faults : (cause_in zero_divisor zero_divisor_plan [] 10000 3 ≡ ByFault (record { kind = Divide; line = 6 })) × (cause_in sum_loop (one_stage_plan sum_loop 1) [] 10 2 ≡ ByFuel)
+faults : (cause_in zero_divisor zero_divisor_plan [] 10000 3 ≡ ByFault (record { kind = Divide; line = 6 }))
+    × (cause_in sum_loop (one_stage_plan sum_loop 1) [] 10 2 ≡ ByFuel)
 unfolding tree_opened
 faults = (refl, refl)
 

@@ -25,14 +25,25 @@ steps_before (Some k) = k
 
 -- the epoch that begins with iteration i of the run
 abbrev key : ℕ → EpochKey
-key i = record { program = stale_read; plan = stale_read_plan; input = []; first = i; base = memory_after run 1 i; steps = steps_before (start run 1 i); fuel = 10000 }
+key i = record {
+  program = stale_read;
+  plan = stale_read_plan;
+  input = [];
+  first = i;
+  base = memory_after run 1 i;
+  steps = steps_before (start run
+      1 i);
+  fuel = 10000;
+}
 
 -- From the start, iteration 2 reads what 0 stored; in the epoch that begins with iteration 1 that is in the base, and 3 reads what 1 stored.
-from_the_start : (goes_on (verdict_at (key 0) 0) ≡ true) × (goes_on (verdict_at (key 0) 1) ≡ true) × (verdict_at (key 0) 2 ≡ Again (why.Load (record { 0 = 3 }) (record { 0 = 2 }) (pos 0) (pos 1)))
+from_the_start : (goes_on (verdict_at (key 0) 0) ≡ true) × (goes_on (verdict_at (key 0) 1) ≡ true)
+    × (verdict_at (key 0) 2 ≡ Again (why.Load (record { 0 = 3 }) (record { 0 = 2 }) (pos 0) (pos 1)))
 unfolding tree_opened turn_from judge_from
 from_the_start = (refl, refl, refl)
 
-from_iteration_1 : (goes_on (verdict_at (key 1) 0) ≡ true) × (goes_on (verdict_at (key 1) 1) ≡ true) × (verdict_at (key 1) 2 ≡ Again (why.Load (record { 0 = 3 }) (record { 0 = 3 }) (pos 0) (pos 2)))
+from_iteration_1 : (goes_on (verdict_at (key 1) 0) ≡ true) × (goes_on (verdict_at (key 1) 1) ≡ true)
+    × (verdict_at (key 1) 2 ≡ Again (why.Load (record { 0 = 3 }) (record { 0 = 3 }) (pos 0) (pos 2)))
 unfolding tree_opened turn_from judge_from
 from_iteration_1 = (refl, refl, refl)
 

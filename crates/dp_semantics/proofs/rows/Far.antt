@@ -52,7 +52,8 @@ second_fit : (fits_plan far_reads ahead_second ≡ true) × (fits_plan near_read
 unfolding tree_opened
 second_fit = (refl, refl)
 
-ahead_again : (recovered far_reads ahead_first (source_run far_reads [] 10000) ≡ 0 ∷ 1 ∷ 2 ∷ 3 ∷ 4 ∷ 5 ∷ 6 ∷ 7 ∷ []) × (recovered far_reads ahead_second (source_run far_reads [] 10000) ≡ [])
+ahead_again : (recovered far_reads ahead_first (source_run far_reads [] 10000) ≡ 0 ∷ 1 ∷ 2 ∷ 3 ∷ 4 ∷ 5 ∷ 6 ∷ 7 ∷ [])
+    × (recovered far_reads ahead_second (source_run far_reads [] 10000) ≡ [])
 unfolding tree_opened
 ahead_again = (refl, refl)
 
@@ -65,7 +66,8 @@ behind_again : recovered near_reads behind_second (source_run near_reads [] 1000
 unfolding tree_opened
 behind_again = refl
 
-behind_memory : (begun_count (source_run near_reads [] 10000) 1 ≡ 5) × (memory_after (source_run near_reads [] 10000) 1 5 ≡ pos 0 ∷ pos 7 ∷ pos 7 ∷ pos 7 ∷ pos 7 ∷ pos 21 ∷ pos 4 ∷ [])
+behind_memory : (begun_count (source_run near_reads [] 10000) 1 ≡ 5) × (memory_after (source_run near_reads [] 10000) 1 5 ≡ pos 0 ∷ pos 7 ∷ pos 7 ∷ pos 7
+    ∷ pos 7 ∷ pos 21 ∷ pos 4 ∷ [])
 unfolding tree_opened
 behind_memory = (refl, refl)
 
@@ -79,7 +81,8 @@ in_text_order = program
     (array 0 5 ∷ scalar 5 (pos 0) Global ∷ scalar 6 (pos 0) Outer ∷ [])
     (site 4 Assign 0 ∷ site 6 While 1 ∷ site 7 Assign 1 ∷ site 8 Assign 1 ∷ site 9 Assign 1 ∷ [])
     (one_region 6 2 5)
-    (set 1 2 (num 0) ∷ region 1 2 (bin op.Lt (var 2) (num 4)) (set 3 1 (add (var 1) (at 0 (var 2))) ∷ set_at 4 0 (var 2) (num 7) ∷ set 5 2 (add (var 2) (num 1)) ∷ []) ∷ [])
+    (set 1 2 (num 0) ∷ region 1 2 (bin op.Lt (var 2) (num 4)) (set 3 1 (add (var 1) (at 0 (var 2))) ∷ set_at 4 0 (var 2) (num 7)
+    ∷ set 5 2 (add (var 2) (num 1)) ∷ []) ∷ [])
 
 -- the store before the load
 abbrev against_text_order : Program
@@ -87,7 +90,8 @@ against_text_order = program
     (array 0 5 ∷ scalar 5 (pos 0) Global ∷ scalar 6 (pos 0) Outer ∷ [])
     (site 4 Assign 0 ∷ site 6 While 1 ∷ site 7 Assign 1 ∷ site 8 Assign 1 ∷ site 9 Assign 1 ∷ [])
     (one_region 6 2 5)
-    (set 1 2 (num 0) ∷ region 1 2 (bin op.Lt (var 2) (num 4)) (set_at 3 0 (var 2) (num 7) ∷ set 4 1 (add (var 1) (at 0 (var 2))) ∷ set 5 2 (add (var 2) (num 1)) ∷ []) ∷ [])
+    (set 1 2 (num 0) ∷ region 1 2 (bin op.Lt (var 2) (num 4)) (set_at 3 0 (var 2) (num 7) ∷ set 4 1 (add (var 1) (at 0 (var 2)))
+    ∷ set 5 2 (add (var 2) (num 1)) ∷ []) ∷ [])
 
 -- 4    int i = 0;
 -- 5    int j = 0;
@@ -103,7 +107,8 @@ in_one_loop = program
     (site 4 Assign 0 ∷ site 5 Assign 0 ∷ site 6 While 1 ∷ site 7 While 1 ∷ site 8 Assign 1 ∷ site 9 Assign 1 ∷ site 10 Assign 1 ∷ site 11 Assign 1 ∷ [])
     (one_region 6 3 8)
     (set 1 2 (num 0) ∷ set 2 3 (num 0) ∷ region 1 3 (bin op.Lt (var 2) (num 4))
-    (loop 4 (bin op.Lt (var 3) (num 2)) (set 5 1 (add (var 1) (at 0 (var 2))) ∷ set_at 6 0 (var 2) (num 7) ∷ set 7 3 (add (var 3) (num 1)) ∷ []) ∷ set 8 2 (add (var 2) (num 1)) ∷ []) ∷ [])
+    (loop 4 (bin op.Lt (var 3) (num 2)) (set 5 1 (add (var 1) (at 0 (var 2))) ∷ set_at 6 0 (var 2) (num 7) ∷ set 7 3 (add (var 3) (num 1)) ∷ [])
+    ∷ set 8 2 (add (var 2) (num 1)) ∷ []) ∷ [])
 
 -- 6    while (i < 4) {
 -- 7      a[i] = a[i] + 1;
@@ -133,7 +138,8 @@ abbrev element_second : Plan
 element_second = proved (unchecked 3 (plan 4096 (Seq ∷ Par ∷ []) (1 ∷ 2 ∷ 1 ∷ []) []))
 
 -- a load before the store of the same element needs no check, one behind it or in a loop with it does
-order_checked : (map (is_checked in_text_order store_late) (2 ∷ 3 ∷ 4 ∷ 5 ∷ []) ≡ false ∷ false ∷ false ∷ false ∷ []) × (is_far_within in_text_order 1 4 3 ≡ false)
+order_checked : (map (is_checked in_text_order store_late) (2 ∷ 3 ∷ 4 ∷ 5 ∷ []) ≡ false ∷ false ∷ false ∷ false ∷ [])
+    × (is_far_within in_text_order 1 4 3 ≡ false)
 unfolding tree_opened
 order_checked = (refl, refl)
 
@@ -164,7 +170,8 @@ moved_twice = program
     (array 0 5 ∷ scalar 5 (pos 0) Global ∷ scalar 6 (pos 0) Outer ∷ [])
     (site 4 Assign 0 ∷ site 6 While 1 ∷ site 7 Assign 1 ∷ site 8 Assign 1 ∷ site 9 Assign 1 ∷ site 10 Assign 1 ∷ [])
     (one_region 6 2 6)
-    (set 1 2 (num 0) ∷ region 1 2 (bin op.Lt (var 2) (num 4)) (set 3 1 (add (var 1) (at 0 (var 2))) ∷ set_at 4 0 (var 2) (num 7) ∷ set 5 2 (add (var 2) (num 1)) ∷ set 6 2 (add (var 2) (num 1)) ∷ []) ∷ [])
+    (set 1 2 (num 0) ∷ region 1 2 (bin op.Lt (var 2) (num 4)) (set 3 1 (add (var 1) (at 0 (var 2))) ∷ set_at 4 0 (var 2) (num 7) ∷ set 5 2 (add (var 2) (num 1))
+    ∷ set 6 2 (add (var 2) (num 1)) ∷ []) ∷ [])
 
 -- 6    while (s < 40) {
 -- 7      int v;
@@ -176,7 +183,8 @@ local_moves = program
     (array 0 5 ∷ scalar 5 (pos 0) Global ∷ scalar 6 (pos 0) (Body 1) ∷ [])
     (site 6 While 1 ∷ site 8 Assign 1 ∷ site 9 Assign 1 ∷ site 10 Assign 1 ∷ [])
     (one_region 6 1 4)
-    (region 1 1 (bin op.Lt (var 1) (num 40)) (set 2 2 (add (var 2) (num 1)) ∷ set 3 1 (add (add (var 1) (at 0 (var 2))) (num 1)) ∷ set_at 4 0 (var 2) (num 7) ∷ []) ∷ [])
+    (region 1 1 (bin op.Lt (var 1) (num 40)) (set 2 2 (add (var 2) (num 1)) ∷ set 3 1 (add (add (var 1) (at 0 (var 2))) (num 1))
+    ∷ set_at 4 0 (var 2) (num 7) ∷ []) ∷ [])
 
 -- two sites store the variable
 twice_near : is_far moved_twice 1 4 3 ≡ false

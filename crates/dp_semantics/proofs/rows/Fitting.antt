@@ -1,9 +1,11 @@
 -- The test programs with their plans pass the test that the central theorem asks, and spoiled plans don't.
 use Rattle.std.proofs.Common.{◌≡◌, refl, ℕ, true, false, [], ◌∷◌}
 use Rattle.dp_tree.proofs.Build.{tree_opened}
-use Rattle.dp_tree.proofs.Programs.{sum_loop, closed_at_once, zero_divisor, stale_read, same_value_store, skip_negative, histogram, two_stores, stale_step, stale_divisor}
+use Rattle.dp_tree.proofs.Programs.{sum_loop, closed_at_once, zero_divisor, stale_read, same_value_store, skip_negative, histogram, two_stores, stale_step}
+use Rattle.dp_tree.proofs.Programs.{stale_divisor}
 use Rattle.dp_plan.specs.declared.StageKind.TheVariants.{Seq, Par}
-use Rattle.dp_plan.proofs.Plans.{proved, plan, sum_loop_one_stage, zero_divisor_plan, stale_read_plan, skip_negative_plan, histogram_plan, two_stores_plan, stale_step_plan, stale_divisor_plan}
+use Rattle.dp_plan.proofs.Plans.{proved, plan, sum_loop_one_stage, zero_divisor_plan, stale_read_plan, skip_negative_plan, histogram_plan, two_stores_plan}
+use Rattle.dp_plan.proofs.Plans.{stale_step_plan, stale_divisor_plan}
 use Rattle.dp_plan.specs.CheckedTable.{checked_table}
 use Rattle.dp_semantics.specs.OneStage.{one_stage_plan}
 use Rattle.dp_semantics.specs.Fits.{fits_plan}
@@ -12,11 +14,13 @@ one_stage_fits : (fits_plan sum_loop (one_stage_plan sum_loop 1) ≡ true) × (f
 unfolding tree_opened
 one_stage_fits = (refl, refl)
 
-one_stage_written_out : (one_stage_plan sum_loop 1 ≡ proved sum_loop_one_stage) × (checked_table sum_loop (one_stage_plan sum_loop 1) ≡ (one_stage_plan sum_loop 1).checked_at)
+one_stage_written_out : (one_stage_plan sum_loop 1 ≡ proved sum_loop_one_stage)
+    × (checked_table sum_loop (one_stage_plan sum_loop 1) ≡ (one_stage_plan sum_loop 1).checked_at)
 unfolding tree_opened
 one_stage_written_out = (refl, refl)
 
-stale_read_fits : (fits_plan stale_read stale_read_plan ≡ true) × (fits_plan same_value_store stale_read_plan ≡ true) × (fits_plan stale_divisor stale_divisor_plan ≡ true)
+stale_read_fits : (fits_plan stale_read stale_read_plan ≡ true) × (fits_plan same_value_store stale_read_plan ≡ true)
+    × (fits_plan stale_divisor stale_divisor_plan ≡ true)
 unfolding tree_opened
 stale_read_fits = (refl, refl, refl)
 
@@ -42,7 +46,8 @@ late_while : fits_plan stale_step (plan 64 (Seq ∷ Seq ∷ []) (1 ∷ 1 ∷ 2 �
 unfolding tree_opened
 late_while = refl
 
-replicated : (fits_plan histogram (plan 4096 (Par ∷ Seq ∷ Seq ∷ []) (1 ∷ 1 ∷ 1 ∷ 2 ∷ 3 ∷ []) []) ≡ false) × (fits_plan histogram (plan 4096 (Seq ∷ Par ∷ Par ∷ []) (1 ∷ 1 ∷ 1 ∷ 2 ∷ 3 ∷ []) []) ≡ false)
+replicated : (fits_plan histogram (plan 4096 (Par ∷ Seq ∷ Seq ∷ []) (1 ∷ 1 ∷ 1 ∷ 2 ∷ 3 ∷ []) []) ≡ false)
+    × (fits_plan histogram (plan 4096 (Seq ∷ Par ∷ Par ∷ []) (1 ∷ 1 ∷ 1 ∷ 2 ∷ 3 ∷ []) []) ≡ false)
 unfolding tree_opened
 replicated = (refl, refl)
 
@@ -51,6 +56,7 @@ unfolding tree_opened
 late_condition = refl
 
 -- a site without a stage, and one with a stage too high
-unlisted : (fits_plan stale_read (plan 4096 (Seq ∷ Seq ∷ []) (1 ∷ 1 ∷ 1 ∷ []) []) ≡ false) × (fits_plan stale_read (plan 4096 (Seq ∷ []) (1 ∷ 1 ∷ 1 ∷ 2 ∷ []) []) ≡ false)
+unlisted : (fits_plan stale_read (plan 4096 (Seq ∷ Seq ∷ []) (1 ∷ 1 ∷ 1 ∷ []) []) ≡ false)
+    × (fits_plan stale_read (plan 4096 (Seq ∷ []) (1 ∷ 1 ∷ 1 ∷ 2 ∷ []) []) ≡ false)
 unfolding tree_opened
 unlisted = (refl, refl)

@@ -58,7 +58,8 @@ steps_before None = 0
 steps_before (Some k) = k
 
 abbrev verdict_in : Program → Plan → List ℤ → Run → ℕ → ℕ → Verdict
-verdict_in p plan input run i e = compared (is_clean p plan run e i) (done_in plan run i) (judgement_at p plan input run e i (steps_before (start run plan.region i)))
+verdict_in p plan input run i e =
+    compared (is_clean p plan run e i) (done_in plan run i) (judgement_at p plan input run e i (steps_before (start run plan.region i)))
 
 abbrev verdicts_of : Program → Plan → List ℤ → Run → List Verdict
 verdicts_of p plan input run = map (λ i. verdict_in p plan input run i (epoch p plan run i)) (numbers_from 0 (begun_count run plan.region))
@@ -87,7 +88,8 @@ stores_in_source_order : verdicts two_stores two_stores_plan [] 10000 ≡ clean 
 unfolding tree_opened turn_from judge_from
 stores_in_source_order = refl
 
-stale_loop : (verdicts stale_step (stale_step_plan 64) [] 10000 ≡ clean ∷ unclean ∷ clean ∷ clean ∷ []) × (verdicts stale_step (stale_step_plan 19) [] 10000 ≡ clean ∷ unclean ∷ unclean ∷ clean ∷ [])
+stale_loop : (verdicts stale_step (stale_step_plan 64) [] 10000 ≡ clean ∷ unclean ∷ clean ∷ clean ∷ [])
+    × (verdicts stale_step (stale_step_plan 19) [] 10000 ≡ clean ∷ unclean ∷ unclean ∷ clean ∷ [])
 unfolding tree_opened turn_from judge_from
 stale_loop = (refl, refl)
 
@@ -104,17 +106,20 @@ fuel_after_an_iteration : verdicts same_value_store stale_read_plan [] 9 ≡ cle
 unfolding tree_opened turn_from judge_from
 fuel_after_an_iteration = refl
 
-replicated_counts : verdicts histogram (plan 4096 (Seq ∷ Par ∷ []) (1 ∷ 1 ∷ 1 ∷ 2 ∷ 2 ∷ []) []) (pos 0 ∷ pos 4 ∷ pos 8 ∷ []) 10000 ≡ clean ∷ unclean ∷ clean ∷ clean ∷ []
+replicated_counts : verdicts histogram (plan 4096 (Seq ∷ Par ∷ []) (1 ∷ 1 ∷ 1 ∷ 2 ∷ 2 ∷ []) []) (pos 0 ∷ pos 4 ∷ pos 8 ∷ []) 10000 ≡ clean ∷ unclean
+    ∷ clean ∷ clean ∷ []
 unfolding tree_opened turn_from judge_from
 replicated_counts = refl
 
 -- an assumption counts where all is in one stage, which goes as the source does
-assumed_in_one_stage : verdicts skip_negative (plan 4096 (Seq ∷ []) (1 ∷ 1 ∷ 1 ∷ 1 ∷ 1 ∷ 1 ∷ []) (assume 4 false ∷ [])) (negsuc 0 ∷ pos 5 ∷ pos 3 ∷ []) 10000 ≡ unclean ∷ clean ∷ clean ∷ []
+assumed_in_one_stage : verdicts skip_negative (plan 4096 (Seq ∷ []) (1 ∷ 1 ∷ 1 ∷ 1 ∷ 1 ∷ 1 ∷ []) (assume 4 false ∷ [])) (negsuc 0 ∷ pos 5 ∷ pos 3 ∷ []) 10000
+    ≡ unclean ∷ clean ∷ clean ∷ []
 unfolding tree_opened turn_from judge_from
 assumed_in_one_stage = refl
 
 -- a replicated stage starts before the stores that the stage before it makes in the iteration: `i` is still the old one
-replicated_before : verdicts histogram (plan 4096 (Seq ∷ Par ∷ Seq ∷ []) (1 ∷ 2 ∷ 1 ∷ 2 ∷ 3 ∷ []) []) (pos 0 ∷ pos 1 ∷ pos 2 ∷ pos 3 ∷ []) 10000 ≡ clean ∷ clean ∷ clean ∷ clean ∷ clean ∷ []
+replicated_before : verdicts histogram (plan 4096 (Seq ∷ Par ∷ Seq ∷ []) (1 ∷ 2 ∷ 1 ∷ 2 ∷ 3 ∷ []) []) (pos 0 ∷ pos 1 ∷ pos 2 ∷ pos 3 ∷ []) 10000 ≡ clean ∷ clean
+    ∷ clean ∷ clean ∷ clean ∷ []
 unfolding tree_opened turn_from judge_from
 replicated_before = refl
 

@@ -24,7 +24,8 @@ at_two i = (i == 1) || (i == 2)
 abbrev at_three : ℕ → Bool
 at_three i = i == 3
 
--- Stage 1 reads what stage 2 stored two iterations before in the same epoch. In one piece these are iterations 2 and 5; the closing one is 6, which reads nothing of it.
+-- Stage 1 reads what stage 2 stored two iterations before in the same epoch. In one piece these are iterations 2 and 5; the closing one is 6, which reads
+-- nothing of it.
 in_one_piece : recovered_from nowhere ≡ 2 ∷ 5 ∷ []
 unfolding tree_opened
 in_one_piece = refl
@@ -42,7 +43,8 @@ saved_where_one_begins : recovered_from at_three ≡ 2 ∷ 5 ∷ []
 unfolding tree_opened
 saved_where_one_begins = refl
 
-epochs_of_saved : (epoch_with at_one stale_read stale_read_plan (source_run stale_read [] 10000) 3 ≡ 1) × (epoch_with at_one stale_read stale_read_plan (source_run stale_read [] 10000) 4 ≡ 4)
+epochs_of_saved : (epoch_with at_one stale_read stale_read_plan (source_run stale_read [] 10000) 3 ≡ 1)
+    × (epoch_with at_one stale_read stale_read_plan (source_run stale_read [] 10000) 4 ≡ 4)
     × (recovered_first_with at_one stale_read stale_read_plan (source_run stale_read [] 10000) 6 ≡ 3 ∷ [])
 unfolding tree_opened
 epochs_of_saved = (refl, refl, refl)
@@ -57,7 +59,8 @@ report n again = report_of 1 n (numbers_from 0 again) cause_at
 -- 700 of 1,500 iterations, gone on with 500 of 600: the last one that is listed is the 300th of the second piece
 two_pieces : ((gone_on (report 1500 700) (report 600 500)).iterations ≡ 2100) × ((gone_on (report 1500 700) (report 600 500)).recovered_count ≡ 1200)
     × (length (gone_on (report 1500 700) (report 600 500)).recovered ≡ 1000) × (slice_get (gone_on (report 1500 700) (report 600 500)).recovered 699 ≡ Some 699)
-    × (slice_get (gone_on (report 1500 700) (report 600 500)).recovered 700 ≡ Some 1500) × (slice_get (gone_on (report 1500 700) (report 600 500)).recovered 999 ≡ Some 1799)
+    × (slice_get (gone_on (report 1500 700) (report 600 500)).recovered 700 ≡ Some 1500)
+    × (slice_get (gone_on (report 1500 700) (report 600 500)).recovered 999 ≡ Some 1799)
     × (slice_get (gone_on (report 1500 700) (report 600 500)).causes 999 ≡ Some (cause_at 299))
 two_pieces = (refl, refl, refl, refl, refl, refl, refl)
 

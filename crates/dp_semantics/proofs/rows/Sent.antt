@@ -18,7 +18,8 @@ use Rattle.dp_semantics.specs.StageRun.{turn_from}
 use Rattle.dp_semantics.specs.Verdict.{source_run, epoch_at, packet_at, words_at_stage}
 
 abbrev same_word : Word → Word → Bool
-same_word v w = (v.site.0 == w.site.0) && (v.index == w.index) && int_eq v.value w.value && (is_load v.kind && is_load w.kind || is_done v.kind && is_done w.kind)
+same_word v w = (v.site.0 == w.site.0) && (v.index == w.index) && int_eq v.value w.value && (is_load v.kind && is_load w.kind || is_done
+    v.kind && is_done w.kind)
 
 abbrev same_words : List Word → List Word → Bool
 same_words [] [] = true
@@ -31,7 +32,8 @@ same_lists (v ∷ vs) (w ∷ ws) = same_words v w && same_lists vs ws
 same_lists _ _ = false
 
 abbrev agrees : Program → Plan → List ℤ → Run → ℕ → Bool
-agrees p plan input run i = same_lists (packet_at p plan input run (epoch p plan run i) i).lists (map (words_at_stage p plan (iteration run plan.region i)) (numbers_from 1 (length plan.stages)))
+agrees p plan input run i = same_lists (packet_at p plan input run (epoch p plan run i) i).lists (map (words_at_stage p plan (iteration run plan.region i))
+    (numbers_from 1 (length plan.stages)))
 
 abbrev agreeing : Program → Plan → List ℤ → List Bool
 agreeing p plan input = by (source_run p input 10000)
@@ -78,7 +80,12 @@ done site index z = record { site = record { 0 = site }; kind = word.Done; index
 abbrev astray : Packet
 astray = packet_at skip_negative skip_negative_plan (negsuc 0 ∷ []) (source_run skip_negative (negsuc 0 ∷ []) 10000) 0 0
 
-broken_in_stage_two : astray ≡ record { lists = (done 2 0 (pos 1) ∷ done 6 1 (pos 1) ∷ []) ∷ []; status = Broken 2 (Astray 5 (Some (done 6 1 (pos 1)))); version = None }
+broken_in_stage_two : astray ≡ record {
+  lists = (done 2 0 (pos 1) ∷ done 6 1 (pos 1) ∷ []) ∷ [];
+  status = Broken 2 (Astray 5
+      (Some (done 6 1 (pos 1))));
+  version = None;
+}
 unfolding tree_opened turn_from
 broken_in_stage_two = refl
 

@@ -41,12 +41,14 @@ words_of_loads : stage_run stale_read stale_read_plan [] 1 (pos 7 ∷ replicate 
 unfolding tree_opened turn_from
 words_of_loads = refl
 
-first_turn : stage_run skip_negative skip_negative_plan input 1 base [] ≡ Ok (record { own = done 2 0 (pos 1) ∷ done 6 1 (pos 1) ∷ []; cells = pos 0 ∷ pos 1 ∷ pos 0 ∷ []; closing = false })
+first_turn : stage_run skip_negative skip_negative_plan input 1 base [] ≡ Ok
+    (record { own = done 2 0 (pos 1) ∷ done 6 1 (pos 1) ∷ []; cells = pos 0 ∷ pos 1 ∷ pos 0 ∷ []; closing = false })
 unfolding tree_opened turn_from
 first_turn = refl
 
 -- the assumption is broken: stage 2 takes the branch, and finds the next word at its first site
-astray : stage_run skip_negative skip_negative_plan input 2 base (own_of (stage_run skip_negative skip_negative_plan input 1 base []) ∷ []) ≡ Err (Astray 5 (Some (done 6 1 (pos 1))))
+astray : stage_run skip_negative skip_negative_plan input 2 base (own_of (stage_run skip_negative skip_negative_plan input 1 base []) ∷ []) ≡ Err
+    (Astray 5 (Some (done 6 1 (pos 1))))
 unfolding tree_opened turn_from
 astray = refl
 
@@ -61,7 +63,8 @@ unfolding tree_opened turn_from
 stale_division = refl
 
 -- the word's cell is none of the variable's
-foreign_cell : stage_run stale_step (stale_step_plan 64) [] 2 (replicate 4 (pos 0)) ((done 2 0 (pos 1) ∷ done 3 0 (pos 0) ∷ []) ∷ []) ≡ Err (Astray 3 (Some (done 3 0 (pos 0))))
+foreign_cell : stage_run stale_step (stale_step_plan 64) [] 2 (replicate 4 (pos 0)) ((done 2 0 (pos 1) ∷ done 3 0 (pos 0) ∷ []) ∷ []) ≡ Err
+    (Astray 3 (Some (done 3 0 (pos 0))))
 unfolding tree_opened turn_from
 foreign_cell = refl
 

@@ -37,8 +37,10 @@ abbrev mutual
   parts until (Assign site x e) = part_of until (record { site = site.0; reads = reads e; store = Some (whole x.0) }) ∷ []
   parts until (Store site x index e) = part_of until (record { site = site.0; reads = reads index ++ reads e; store = Some (element x.0 index) }) ∷ []
   parts until (Print site e) = part_of until (record { site = site.0; reads = reads e; store = None }) ∷ []
-  parts until (If' site cond _ then_part _ else_part) = part_of until (record { site = site.0; reads = reads cond; store = None }) ∷ (parts_in until then_part ++ parts_in until else_part)
-  parts until (While' site cond h body) = part_of (until_in until (While' site cond h body)) (record { site = site.0; reads = reads cond; store = None }) ∷ parts_in (until_in until (While' site cond h body)) body
+  parts until (If' site cond _ then_part _ else_part) =
+      part_of until (record { site = site.0; reads = reads cond; store = None }) ∷ (parts_in until then_part ++ parts_in until else_part)
+  parts until (While' site cond h body) = part_of (until_in until (While' site cond h body)) (record { site = site.0; reads = reads cond; store = None })
+      ∷ parts_in (until_in until (While' site cond h body)) body
   parts until (Region' r site cond _ body) = part_of until (record { site = site.0; reads = reads cond; store = None }) ∷ parts_in until body
   parts until (Break site cond) = part_of until (record { site = site.0; reads = reads cond; store = None }) ∷ []
   parts until (Call f line args) = []

@@ -42,7 +42,8 @@ module _ (p : Program) (plan : Plan) (fits : fits_plan p plan ≡ true) (input :
       is_clean p plan run (epoch p plan run i) i ≡ true
   judged_clean_is_clean i k v here = (fitting_epochs p plan fits input fuel (begin p) (begins_in_main p) i k here).back v
 
-  clean_has_the_sources_words : (i k t : ℕ) → start run plan.region i ≡ Some k → is_clean p plan run (epoch p plan run i) i ≡ true → 0 < t → t ≤ length plan.stages →
+  clean_has_the_sources_words : (i k t : ℕ) → start run plan.region i ≡ Some k → is_clean p plan run (epoch p plan run i) i ≡ true → 0 < t →
+      t ≤ length plan.stages →
       word_list (packet_at p plan input run (epoch p plan run i) i).lists t ≡ words_at_stage p plan (iteration run plan.region i) t
   clean_has_the_sources_words i k t here clean = ((fitting_epochs p plan fits input fuel (begin p) (begins_in_main p) i k here).sent clean).words t
 
@@ -56,7 +57,8 @@ module _ (p : Program) (plan : Plan) (fits : fits_plan p plan ≡ true) (input :
   next_starts_behind i k here ended open' = (fitting_leads p plan fits input fuel (begin p) (begins_in_main p) i k here ended open').next_start
 
   next_memory_is_stored : (i k : ℕ) → start run plan.region i ≡ Some k → has_ended run plan.region i ≡ true → is_closing run plan.region i ≡ false →
-      memory_after run plan.region (suc i) ≡ clear_locals plan.region p.vars (applied (map effect_in (iteration run plan.region i)) (memory_after run plan.region i))
+      memory_after run plan.region (suc i) ≡ clear_locals plan.region p.vars (applied (map effect_in (iteration run plan.region i))
+      (memory_after run plan.region i))
   next_memory_is_stored i k here ended open' = (fitting_leads p plan fits input fuel (begin p) (begins_in_main p) i k here ended open').memory
 
   -- In one piece an epoch goes on where the iteration is clean, and the next one begins behind it where it isn't.
@@ -68,7 +70,14 @@ module _ (p : Program) (plan : Plan) (fits : fits_plan p plan ≡ true) (input :
 
   -- .. and no more are executed again than are begun
   few_again : length (recovered p plan run) ≤ begun_count run plan.region
-  few_again = let ns : List ℕ = numbers_from 0 (begun_count run plan.region) in omega (arith, length-filter (is_recovered p plan run) ns, count_by-le-length (is_recovered p plan run) ns, length-numbers_from 0 (begun_count run plan.region))
+  few_again = let ns : List ℕ = numbers_from 0 (begun_count run plan.region) in
+      omega (
+        arith,
+        length-filter (is_recovered p plan run) ns,
+        count_by-le-length (is_recovered p plan
+            run) ns,
+        length-numbers_from 0 (begun_count run plan.region),
+      )
 
   report_is : region_report p plan run ≡ report_of plan.region (begun_count run plan.region) (recovered p plan run) (λ i. reported (cause p plan run i))
   report_is = refl

@@ -42,6 +42,7 @@ abbrev summary_of : Run → Summary
 summary_of run = record { cells = cells_after run (length run.trace); steps = length run.trace; end = run.end }
 
 -- the `if` goes the first way once and the other way twice, and the print divides by 0
-whole : summary_of (run_of choosing [] 100 (begin choosing)) ≡ record { cells = pos 15 ∷ pos 2 ∷ pos 3 ∷ []; steps = 14; end = Fault (record { kind = Divide; line = 13 }) }
+whole : summary_of (run_of choosing [] 100 (begin choosing))
+    ≡ record { cells = pos 15 ∷ pos 2 ∷ pos 3 ∷ []; steps = 14; end = Fault (record { kind = Divide; line = 13 }) }
 unfolding tree_opened
 whole = refl

@@ -80,7 +80,8 @@ unfolding tree_opened
 remainder_by_zero = refl
 
 -- print(-7 / 2); print(-7 % 2);
-division_toward_zero : summary 100 (say 1 (bin op.Div (minus (num 7)) (num 2)) ∷ say 2 (bin op.Rem (minus (num 7)) (num 2)) ∷ []) ≡ printed (negsuc 2 ∷ negsuc 0 ∷ []) 2
+division_toward_zero : summary 100 (say 1 (bin op.Div (minus (num 7)) (num 2)) ∷ say 2 (bin op.Rem (minus (num 7)) (num 2)) ∷ []) ≡ printed
+    (negsuc 2 ∷ negsuc 0 ∷ []) 2
 unfolding tree_opened
 division_toward_zero = refl
 
@@ -125,12 +126,14 @@ unfolding tree_opened
 no_input = refl
 
 -- print(0 && 1 / 0); print(7 || 1 / 0);
-short_circuit : summary 100 (say 1 (tree.And (num 0) (bin op.Div (num 1) (num 0))) ∷ say 2 (tree.Or (num 7) (bin op.Div (num 1) (num 0))) ∷ []) ≡ printed (pos 0 ∷ pos 1 ∷ []) 2
+short_circuit : summary 100 (say 1 (tree.And (num 0) (bin op.Div (num 1) (num 0))) ∷ say 2 (tree.Or (num 7) (bin op.Div (num 1) (num 0))) ∷ []) ≡ printed
+    (pos 0 ∷ pos 1 ∷ []) 2
 unfolding tree_opened
 short_circuit = refl
 
 -- print(5 && -3); print(0 || 7); print(!7);
-truth_values : summary 100 (say 1 (tree.And (num 5) (minus (num 3))) ∷ say 2 (tree.Or (num 0) (num 7)) ∷ say 3 (tree.Unary sign.Not (num 7)) ∷ []) ≡ printed (pos 1 ∷ pos 1 ∷ pos 0 ∷ []) 3
+truth_values : summary 100 (say 1 (tree.And (num 5) (minus (num 3))) ∷ say 2 (tree.Or (num 0) (num 7)) ∷ say 3 (tree.Unary sign.Not (num 7)) ∷ []) ≡ printed
+    (pos 1 ∷ pos 1 ∷ pos 0 ∷ []) 3
 unfolding tree_opened
 truth_values = refl
 
@@ -146,12 +149,14 @@ unfolding tree_opened
 loads_in_order = refl
 
 -- x && a[0] with x = 0 loads x alone
-left_out_without_loads : eval (one_line []) [] (pos 0 ∷ pos 5 ∷ pos 6 ∷ []) (tree.And (var 0) (at 1 (num 0))) ≡ Ok (record { value = pos 0; loads = record { cell = 0; value = pos 0 } ∷ [] })
+left_out_without_loads : eval (one_line []) [] (pos 0 ∷ pos 5 ∷ pos 6 ∷ []) (tree.And (var 0) (at 1 (num 0))) ≡ Ok
+    (record { value = pos 0; loads = record { cell = 0; value = pos 0 } ∷ [] })
 unfolding tree_opened
 left_out_without_loads = refl
 
 -- the input's words and their number are no loads
-input_without_loads : eval (one_line []) (pos 8 ∷ pos 9 ∷ []) (pos 1 ∷ []) (bin op.Add (tree.Input (num 1)) tree.InputLen) ≡ Ok (record { value = pos 11; loads = [] })
+input_without_loads : eval (one_line []) (pos 8 ∷ pos 9 ∷ []) (pos 1 ∷ []) (bin op.Add (tree.Input (num 1)) tree.InputLen) ≡ Ok
+    (record { value = pos 11; loads = [] })
 unfolding tree_opened
 input_without_loads = refl
 

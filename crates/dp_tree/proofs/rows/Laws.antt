@@ -27,7 +27,8 @@ module _ (p : Program) (input : List ℤ) where
   steps_are_within : (fuel : ℕ) → length (run fuel).trace ≤ fuel
   steps_are_within fuel = (runs_by_step p input fuel (begin p)).steps_within
 
-  each_event_is_a_step : (fuel k : ℕ) (before after : Config) (event : Event) → slice_get (run fuel).configs k ≡ Some before → slice_get (run fuel).trace k ≡ Some event →
+  each_event_is_a_step : (fuel k : ℕ) (before after : Config) (event : Event) → slice_get (run fuel).configs k ≡ Some before →
+      slice_get (run fuel).trace k ≡ Some event →
       slice_get (run fuel).configs (suc k) ≡ Some after → step p input before ≡ Stepped event after
   each_event_is_a_step fuel = (runs_by_step p input fuel (begin p)).each
 

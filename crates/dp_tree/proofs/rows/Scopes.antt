@@ -17,7 +17,19 @@ table_is_checked = record { globals = refl; cells = refl; sites = refl; roles = 
 pub expanded_table_is_inlined : IsInlined word_table_expanded
 unfolding tree_opened
 expanded_table_is_inlined =
-    record { globals = refl; cells = refl; named = refl; functions = refl; calls = refl; sites = refl; roles = refl; regions = refl; table = refl; few = omega arith; few_each = refl }
+    record {
+      globals = refl;
+      cells = refl;
+      named = refl;
+      functions = refl;
+      calls = refl;
+      sites = refl;
+      roles = refl;
+      regions = refl;
+      table = refl;
+      few = omega arith;
+      few_each = refl;
+    }
 
 -- variable 0 is a file-scope one, the others are locals
 abbrev naming : List Function → List Stmt → Program
@@ -39,7 +51,8 @@ used_behind_its_block : is_scoped (naming [] (loop 1 (var 0) (set 2 1 (num 1) �
 unfolding tree_opened
 used_behind_its_block = refl
 
-calls_an_earlier_function : is_scoped (naming (function (1 ∷ []) (say 1 (var 1) ∷ []) ∷ function [] (call 0 1 (num 1 ∷ []) ∷ []) ∷ []) (call 1 1 [] ∷ [])) ≡ true
+calls_an_earlier_function : is_scoped (naming (function (1 ∷ []) (say 1 (var 1) ∷ []) ∷ function [] (call 0 1 (num 1 ∷ []) ∷ []) ∷ [])
+    (call 1 1 [] ∷ [])) ≡ true
 unfolding tree_opened
 calls_an_earlier_function = refl
 

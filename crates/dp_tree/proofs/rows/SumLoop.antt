@@ -35,25 +35,30 @@ unfolding tree_opened
 no_step = refl
 
 -- the fuel is spent exactly before a condition: that iteration isn't begun
-before_a_condition : summary sum_loop 9 ≡ record { prints = pos 0 ∷ pos 1 ∷ []; cells = pos 1 ∷ pos 2 ∷ []; steps = 9; begun = 2; ended = 0 ∷ 1 ∷ []; end = Fuel }
+before_a_condition : summary sum_loop 9
+    ≡ record { prints = pos 0 ∷ pos 1 ∷ []; cells = pos 1 ∷ pos 2 ∷ []; steps = 9; begun = 2; ended = 0 ∷ 1 ∷ []; end = Fuel }
 unfolding tree_opened
 before_a_condition = refl
 
 -- one step more: the iteration is begun, and hasn't ended
-after_a_condition : summary sum_loop 10 ≡ record { prints = pos 0 ∷ pos 1 ∷ []; cells = pos 1 ∷ pos 2 ∷ []; steps = 10; begun = 3; ended = 0 ∷ 1 ∷ []; end = Fuel }
+after_a_condition : summary sum_loop 10
+    ≡ record { prints = pos 0 ∷ pos 1 ∷ []; cells = pos 1 ∷ pos 2 ∷ []; steps = 10; begun = 3; ended = 0 ∷ 1 ∷ []; end = Fuel }
 unfolding tree_opened
 after_a_condition = refl
 
-before_the_closing_condition : summary sum_loop 13 ≡ record { prints = pos 0 ∷ pos 1 ∷ pos 3 ∷ []; cells = pos 3 ∷ pos 3 ∷ []; steps = 13; begun = 3; ended = 0 ∷ 1 ∷ 2 ∷ []; end = Fuel }
+before_the_closing_condition : summary sum_loop 13
+    ≡ record { prints = pos 0 ∷ pos 1 ∷ pos 3 ∷ []; cells = pos 3 ∷ pos 3 ∷ []; steps = 13; begun = 3; ended = 0 ∷ 1 ∷ 2 ∷ []; end = Fuel }
 unfolding tree_opened
 before_the_closing_condition = refl
 
 -- nothing is left to evaluate, so the end is Done with no fuel left
-whole_run : summary sum_loop 14 ≡ record { prints = pos 0 ∷ pos 1 ∷ pos 3 ∷ []; cells = pos 3 ∷ pos 3 ∷ []; steps = 14; begun = 4; ended = 0 ∷ 1 ∷ 2 ∷ 3 ∷ []; end = Done }
+whole_run : summary sum_loop 14
+    ≡ record { prints = pos 0 ∷ pos 1 ∷ pos 3 ∷ []; cells = pos 3 ∷ pos 3 ∷ []; steps = 14; begun = 4; ended = 0 ∷ 1 ∷ 2 ∷ 3 ∷ []; end = Done }
 unfolding tree_opened
 whole_run = refl
 
-whole_run_with_fuel_left : summary sum_loop 100 ≡ record { prints = pos 0 ∷ pos 1 ∷ pos 3 ∷ []; cells = pos 3 ∷ pos 3 ∷ []; steps = 14; begun = 4; ended = 0 ∷ 1 ∷ 2 ∷ 3 ∷ []; end = Done }
+whole_run_with_fuel_left : summary sum_loop 100
+    ≡ record { prints = pos 0 ∷ pos 1 ∷ pos 3 ∷ []; cells = pos 3 ∷ pos 3 ∷ []; steps = 14; begun = 4; ended = 0 ∷ 1 ∷ 2 ∷ 3 ∷ []; end = Done }
 unfolding tree_opened
 whole_run_with_fuel_left = refl
 

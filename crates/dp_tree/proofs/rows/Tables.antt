@@ -27,20 +27,24 @@ global_behind_a_local : globals_first (scalar 0 (pos 0) Outer ∷ scalar 1 (pos 
 global_behind_a_local = refl
 
 -- the sites of an `if` with both branches, in text order
-numbers_in_text_order : site_numbers_all (stmt.If (record { 0 = 1 }) (num 0) (say 2 (num 0) ∷ []) (say 3 (num 0) ∷ []) ∷ loop 4 (num 0) (say 5 (num 0) ∷ []) ∷ []) ≡ 1 ∷ 2 ∷ 3 ∷ 4 ∷ 5 ∷ []
+numbers_in_text_order : site_numbers_all (stmt.If (record { 0 = 1 }) (num 0) (say 2 (num 0) ∷ []) (say 3 (num 0) ∷ []) ∷ loop 4 (num 0) (say 5 (num 0) ∷ [])
+    ∷ []) ≡ 1 ∷ 2 ∷ 3 ∷ 4 ∷ 5 ∷ []
 unfolding tree_opened
 numbers_in_text_order = refl
 
 -- a statement of each form, first outside all regions and then in region 2
 abbrev of_each_form : List Stmt
-of_each_form = set 1 0 (num 0) ∷ set_at 2 0 (num 0) (num 0) ∷ say 3 (num 0) ∷ stmt.If (record { 0 = 4 }) (num 0) (say 5 (num 0) ∷ []) (set 6 0 (num 0) ∷ []) ∷ call 0 1 [] ∷ loop 7 (num 0) (say 8 (num 0) ∷ []) ∷ []
+of_each_form = set 1 0 (num 0) ∷ set_at 2 0 (num 0) (num 0) ∷ say 3 (num 0) ∷ stmt.If (record { 0 = 4 }) (num 0) (say 5 (num 0) ∷ []) (set 6 0 (num 0) ∷ [])
+    ∷ call 0 1 [] ∷ loop 7 (num 0) (say 8 (num 0) ∷ []) ∷ []
 
-roles_outside : site_roles_all 0 of_each_form ≡ (kind.Assign, 0) ∷ (kind.Assign, 0) ∷ (kind.Print, 0) ∷ (kind.If, 0) ∷ (kind.Print, 0) ∷ (kind.Assign, 0) ∷ (kind.While, 0) ∷ (kind.Print, 0) ∷ []
+roles_outside : site_roles_all 0 of_each_form ≡ (kind.Assign, 0) ∷ (kind.Assign, 0) ∷ (kind.Print, 0) ∷ (kind.If, 0) ∷ (kind.Print, 0) ∷ (kind.Assign, 0)
+    ∷ (kind.While, 0) ∷ (kind.Print, 0) ∷ []
 unfolding tree_opened
 roles_outside = refl
 
 roles_inside : site_roles_all 0 (region 2 1 (num 0) (stmt.Break (record { 0 = 2 }) (num 0) ∷ of_each_form) ∷ say 3 (num 0) ∷ []) ≡
-    (kind.While, 2) ∷ (kind.Break, 2) ∷ (kind.Assign, 2) ∷ (kind.Assign, 2) ∷ (kind.Print, 2) ∷ (kind.If, 2) ∷ (kind.Print, 2) ∷ (kind.Assign, 2) ∷ (kind.While, 2) ∷ (kind.Print, 2) ∷ (kind.Print, 0) ∷ []
+    (kind.While, 2) ∷ (kind.Break, 2) ∷ (kind.Assign, 2) ∷ (kind.Assign, 2) ∷ (kind.Print, 2) ∷ (kind.If, 2) ∷ (kind.Print, 2) ∷ (kind.Assign, 2)
+    ∷ (kind.While, 2) ∷ (kind.Print, 2) ∷ (kind.Print, 0) ∷ []
 unfolding tree_opened
 roles_inside = refl
 

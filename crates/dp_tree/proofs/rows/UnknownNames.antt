@@ -21,12 +21,14 @@ expressions x =
 abbrev statements : ℕ → List Stmt
 statements x =
     set 1 0 (var x) ∷ set_at 1 x (num 0) (num 0) ∷ set_at 1 0 (var x) (num 0) ∷ set_at 1 0 (num 0) (var x) ∷ say 1 (var x)
-    ∷ stmt.If (record { 0 = 1 }) (var x) [] [] ∷ stmt.If (record { 0 = 1 }) (num 0) (say 2 (var x) ∷ []) [] ∷ stmt.If (record { 0 = 1 }) (num 0) [] (say 2 (var x) ∷ [])
+    ∷ stmt.If (record { 0 = 1 }) (var x) [] [] ∷ stmt.If (record { 0 = 1 }) (num 0) (say 2 (var x) ∷ []) [] ∷ stmt.If (record { 0 = 1 }) (num 0) []
+    (say 2 (var x) ∷ [])
     ∷ loop 1 (var x) [] ∷ loop 1 (num 0) (say 2 (var x) ∷ []) ∷ region 1 1 (var x) [] ∷ region 1 1 (num 0) (say 2 (var x) ∷ []) ∷ call 0 1 (var x ∷ []) ∷ []
 
 -- variable 0 is a file-scope one, 1 the parameter of the function, and 2 a local that nothing declares
 abbrev scoped : Stmt → Bool
-scoped s = is_scoped (with_functions (function (1 ∷ []) [] ∷ []) (program (scalar 0 (pos 0) Global ∷ scalar 1 (pos 0) Outer ∷ scalar 2 (pos 0) Outer ∷ []) [] [] (s ∷ [])))
+scoped s = is_scoped (with_functions (function (1 ∷ []) [] ∷ []) (program (scalar 0 (pos 0) Global ∷ scalar 1 (pos 0) Outer ∷ scalar 2 (pos 0) Outer
+    ∷ []) [] [] (s ∷ [])))
 
 visible_in_expressions : map (λ (e : Expr). scoped (say 1 e)) (expressions 0) ≡ replicate 11 true
 unfolding tree_opened

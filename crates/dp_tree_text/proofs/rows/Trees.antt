@@ -19,12 +19,14 @@ unfolding expr_text number_text labelled opened Rattle.std.specs.Fmt.digits
 sums = refl
 
 -- a[input[v0 - 1]] / -v3 || !(input_len < -7) && 10 <= a[0]
-others : expr_text (tree.Or (bin Div (at 4 (tree.Input (bin Sub (var 0) (num 1)))) (tree.Unary Neg (var 3))) (tree.And (tree.Unary Not (bin Lt tree.InputLen (tree.Number (negsuc 6)))) (bin Le (num 10) (at 4 (num 0)))))
+others : expr_text (tree.Or (bin Div (at 4 (tree.Input (bin Sub (var 0) (num 1)))) (tree.Unary Neg (var 3)))
+    (tree.And (tree.Unary Not (bin Lt tree.InputLen (tree.Number (negsuc 6)))) (bin Le (num 10) (at 4 (num 0)))))
     ≡ codes " || / element 4 input - scalar 0 number 1 negate scalar 3 && ! < input_len number -7 <= number 10 element 4 number 0"
 unfolding expr_text number_text labelled opened Rattle.std.specs.Fmt.digits
 others = refl
 
-comparisons : expr_text (bin Eq (bin Gt (num 1) (num 2)) (bin Ne (bin Ge (num 3) (num 4)) (num 5))) ≡ codes " == > number 1 number 2 != >= number 3 number 4 number 5"
+comparisons : expr_text (bin Eq (bin Gt (num 1) (num 2)) (bin Ne (bin Ge (num 3) (num 4)) (num 5))) ≡ codes
+    " == > number 1 number 2 != >= number 3 number 4 number 5"
 unfolding expr_text number_text labelled opened Rattle.std.specs.Fmt.digits
 comparisons = refl
 
@@ -35,10 +37,12 @@ unfolding statement_texts statement_text expr_text number_text labelled opened R
 inner = refl
 
 -- int x = 5; int a[3]; int i of `main`; a region that breaks, stores and prints with a local t of its body
-whole : tree_bytes (program (record (scalar 0 (pos 5) Global) { name = codes "x" } ∷ record (array 1 3) { name = codes "a" } ∷ record (scalar 4 (pos 0) Outer) { name = codes "i" } ∷ record (scalar 5 (pos 0) (Body 1)) { name = codes "t" } ∷ [])
+whole : tree_bytes (program (record (scalar 0 (pos 5) Global) { name = codes "x" } ∷ record (array 1 3) { name = codes "a" } ∷ record (scalar 4 (pos 0) Outer)
+    { name = codes "i" } ∷ record (scalar 5 (pos 0) (Body 1)) { name = codes "t" } ∷ [])
     (site 4 kind.Assign 0 ∷ site 6 kind.While 1 ∷ site 7 kind.Break 1 ∷ site 8 kind.Assign 1 ∷ site 9 kind.Print 1 ∷ [])
     (record { line = 6; first = record { 0 = 2 }; last = record { 0 = 5 } } ∷ [])
-    (set 1 2 (tree.Number (negsuc 0)) ∷ region 1 2 (bin Lt (var 2) tree.InputLen) (stmt.Break (record { 0 = 3 }) (var 0) ∷ set_at 4 1 (var 2) (var 3) ∷ say 5 (at 1 (num 2)) ∷ []) ∷ []))
+    (set 1 2 (tree.Number (negsuc 0)) ∷ region 1 2 (bin Lt (var 2) tree.InputLen) (stmt.Break (record { 0 = 3 }) (var 0) ∷ set_at 4 1 (var 2) (var 3)
+    ∷ say 5 (at 1 (num 2)) ∷ []) ∷ []))
     ≡ codes "ok\nregion 1 line 6 sites 2 to 5\nsite 1 line 4 assign\nsite 2 line 6 while\nsite 3 line 7 break\nsite 4 line 8 assign\nsite 5 line 9 print\nvar 0 x scalar first 0 length 1 start 5 global\nvar 1 a array first 1 length 3 start 0 global\nvar 2 i scalar first 4 length 1 start 0 outer\nvar 3 t scalar first 5 length 1 start 0 body 1\nmain\nassign 1 2 number -1\nregion 1 2 < scalar 2 input_len\nbreak 3 scalar 0\nstore 4 1 scalar 2 scalar 3\nprint 5 element 1 number 2\nend\nend\n"
 unfolding statement_texts statement_text expr_text number_text labelled opened Rattle.std.specs.Fmt.digits
 whole = refl

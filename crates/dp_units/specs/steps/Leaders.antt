@@ -11,9 +11,11 @@ pub record AreLeaders (count : ℕ) (edges : List (ℕ × ℕ)) (leader_of : Lis
   pub rank : ℕ → ℕ
   pub highest : ℕ
   pub bound : (v : ℕ) → v < count → rank (slice_index leader_of v) ≤ highest
-  pub falls : (a b : ℕ) → HasEdge edges a b → (slice_index leader_of a ≡ slice_index leader_of b) ⊎ (rank (slice_index leader_of b) < rank (slice_index leader_of a))
+  pub falls : (a b : ℕ) → HasEdge edges a b → (slice_index leader_of a ≡ slice_index leader_of b)
+      ⊎ (rank (slice_index leader_of b) < rank (slice_index leader_of a))
 
 -- the edges that lead from one unit to another, each from leader to leader
 pub record AreBetween (edges : List (ℕ × ℕ)) (leader_of : List ℕ) (between : List (ℕ × ℕ)) : Type 0 where
   pub from : (x y : ℕ) → HasEdge between x y → (x ≢ y) × (a : ℕ) × (b : ℕ) × HasEdge edges a b × (slice_index leader_of a ≡ x) × (slice_index leader_of b ≡ y)
-  pub all : (a b : ℕ) → HasEdge edges a b → slice_index leader_of a ≢ slice_index leader_of b → HasEdge between (slice_index leader_of a) (slice_index leader_of b)
+  pub all : (a b : ℕ) → HasEdge edges a b → slice_index leader_of a ≢ slice_index leader_of b →
+      HasEdge between (slice_index leader_of a) (slice_index leader_of b)

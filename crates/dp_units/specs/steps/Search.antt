@@ -23,7 +23,8 @@ IsUnseen marks v = At marks v Unseen
 abbrev pub IsSettled : List Mark → List ℕ → ℕ → ℕ → Type 0
 IsSettled marks bottoms i w = ((c : ℕ) × At marks w (Closed c)) ⊎ ((j : ℕ) × At marks w (OnPath j) × ((b : ℕ) → Has bottoms b → b ≤ i → b ≤ j))
 
--- what the search knows: of each node, of the path, of the edges that wait for a look, each by the place that it leads from and its target, and of the units that are closed
+-- what the search knows: of each node, of the path, of the edges that wait for a look, each by the place that it leads from and its target, and of the units
+-- that are closed
 pub record IsSearch (count : ℕ) (edges : List (ℕ × ℕ)) (marks : List Mark) (path bottoms : List ℕ) (waiting : List (ℕ × ℕ)) (leaders : List ℕ) : Type 0 where
   pub each : length marks ≡ count
   pub placed : (v i : ℕ) → At marks v (OnPath i) → At path i v

@@ -34,7 +34,8 @@ IsLastGroup s bottom = s.bottoms.items ≡ take (length s.bottoms.items - 1) s.b
 
 -- the last edge that waits leads from the last group to this node
 abbrev pub LeadsOn : Search → ℕ → Type 0
-LeadsOn s target = (bottom : ℕ) × IsLastGroup s bottom × (place : ℕ) × (bottom ≤ place) × (s.waiting.items ≡ take (length s.waiting.items - 1) s.waiting.items ++ (place, target) ∷ [])
+LeadsOn s target = (bottom : ℕ) × IsLastGroup s bottom × (place : ℕ) × (bottom ≤ place)
+    × (s.waiting.items ≡ take (length s.waiting.items - 1) s.waiting.items ++ (place, target) ∷ [])
 
 -- no edge from the last group, which begins at this place, waits
 abbrev pub IsDone : Search → ℕ → Type 0

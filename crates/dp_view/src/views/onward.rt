@@ -9,7 +9,7 @@ use crate::shares::{next_all, refresh_all};
 impl<'p> Views<'p> {
     /// The next iteration begins, in the same epoch.
     pub fn go_on(&mut self)
-        ensures { self.new ≡ definition.onward self.old }
+        ensures { self.new ≡ definition.next_in_epoch self.old }
     {
         let locals = self.locals.as_slice();
         next_all(

@@ -5,7 +5,7 @@ use Rattle.clap.specs.Words.{App, IsUnsignedIn, Text, first_value, found_of}
 use Rattle.clap.specs.declared.parser.matches.ArgMatches.{ArgMatches}
 use Rattle.dp_base.specs.declared.limits.TheConstants.{FUEL, INPUT_WORDS, LANE, RATE, SEED, STAGES, WORKERS}
 use Rattle.dp_words.specs.declared.task.TheConstants.{REGION}
-use Rattle.dp_words.specs.Commands.{IsTaken, value_in}
+use Rattle.dp_words.specs.Commands.{CommandTakes, value_given}
 use Rattle.dp_words.specs.Values.{Values}
 
 -- the value of each name and option
@@ -26,8 +26,8 @@ pub record HoldsNumbers (value : Values) : Type 0 where
 
 -- the command takes the words, and these are the values that they give
 pub record Finds (app : App) (words : List Text) (value : Values) : Type 0 where
-  pub taken : IsTaken app words
-  pub same : (id : Text) → value id ≡ value_in app words id
+  pub taken : CommandTakes app words
+  pub same : (id : Text) → value id ≡ value_given app words id
   pub numbers : HoldsNumbers value
 
 -- a number that was given has decimal digits and less than this many bits

@@ -5,12 +5,12 @@ use Rattle.clap.specs.Words.{App, Rule, Text, with_rule}
 use Rattle.dp_words.specs.declared.arguments.Argument.{Argument}
 use Rattle.dp_words.specs.declared.arguments.Argument.TheVariants as argument
 use Rattle.dp_words.specs.declared.verb.Line.{Line}
-use Rattle.dp_words.specs.Commands.{file_option, flag, further_name, name_of, needed_number, number_name, number_option}
+use Rattle.dp_words.specs.Commands.{file_option, flag, further_name, name_rule, needed_number, number_name, number_option}
 use Rattle.dp_words.specs.steps.Verbs.{app_by, verb_name}
 
 -- the rule of a name or of an option
 abbrev pub rule_for : Argument → Rule
-rule_for (argument.Name id) = name_of id.now
+rule_for (argument.Name id) = name_rule id.now
 rule_for (argument.FurtherName id) = further_name id.now
 rule_for (argument.NumberName id low high) = number_name id.now low high
 rule_for (argument.FileOption id) = file_option id.now

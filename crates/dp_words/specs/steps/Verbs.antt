@@ -4,8 +4,10 @@ use Rattle.clap.specs.Words.{App, Text}
 use Rattle.dp_words.specs.declared.task.Task.{Task}
 use Rattle.dp_words.specs.declared.verb.Verb.{Verb}
 use Rattle.dp_words.specs.declared.verb.Verb.TheVariants as verb
-use Rattle.dp_words.specs.Commands.{audit_app, batch_app, check_app, explain_app, gen_app, log_app, plan_app, profile_app, resume_app, run_app, save_app, tree_app}
-use Rattle.dp_words.specs.Words.{Asked, Asks, AsksNothing, IsWithin, ToAudit, ToBatch, ToExplain, ToList, ToLog, ToMake, ToPlan, ToProfile, ToResume, ToRun, ToSave, ToTree, asked_in}
+use Rattle.dp_words.specs.Commands.{audit_app, batch_app, check_app, explain_app, gen_app, log_app, plan_app, profile_app, resume_app, run_app, save_app}
+use Rattle.dp_words.specs.Commands.{tree_app}
+use Rattle.dp_words.specs.Words.{Asked, Asks, AsksNothing, IsWithin, ToAudit, ToBatch, ToExplain, ToList, ToLog, ToMake, ToPlan, ToProfile, ToResume, ToRun}
+use Rattle.dp_words.specs.Words.{ToSave, ToTree, asked_by}
 use Rattle.dp_words.specs.Values.{Values}
 use Rattle.dp_words.specs.Run.{ShowsNamed, ShowsRun}
 use Rattle.dp_words.specs.Planning.{ShowsPlanning}
@@ -76,12 +78,12 @@ Shows value (ToBatch run list) = ShowsNamed (codes "list") value (run, list)
 
 -- What the values ask for by this verb: its numbers are within their limits, and there is none exactly where they ask for nothing by it.
 pub record Tells (v : Verb) (value : Values) (task : Option Task) : Type 0 where
-  pub some : IfSome task (λ t. (verb_for (asked_in t) ≡ v) × Shows value (asked_in t))
+  pub some : IfSome task (λ t. (verb_for (asked_by t) ≡ v) × Shows value (asked_by t))
   pub within : IfSome task IsWithin
   pub none : IfNone task ((asked : Asked) → verb_for asked ≡ v → ¬ Shows value asked)
 
 -- The same of words.
 pub record Answers (words : List Text) (task : Option Task) : Type 0 where
-  pub some : IfSome task (λ t. Asks words (asked_in t))
+  pub some : IfSome task (λ t. Asks words (asked_by t))
   pub within : IfSome task IsWithin
   pub none : IfNone task (AsksNothing words)

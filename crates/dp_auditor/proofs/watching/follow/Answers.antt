@@ -12,8 +12,10 @@ loop-out-preserved c = record {
       let less = subst (λ (n : ℕ). n < c.args.until) c.steps.ensures.value c.loop-out-test.true in
       let step = subst (λ (s : Sight). WatchedStep s c.watch.new.loads.cells c.loop-out.machine c.watch.new.self) c.in-Step.is c.in_ok-site.ensures.ok in
       let heard : c.event.new.self ≡ after_event (event_told c.loop-out.views.source c.in-Step.site c.in-Step.effect c.watch.new.loads.cells) c.loop-out.views =
-      c.in_ok-event-in-Step.ensures ∙ ap (λ (cells : List ℕ). after_event (event_told c.loop-out.views.source c.in-Step.site c.in-Step.effect cells) c.loop-out.views) c.as_slice.ensures in
-      let next = follows_step c.loop-out.machine c.watch.new.self c.args.until c.loop-out.views c.event.new.self c.in-Step.site c.in-Step.effect c.watch.new.loads.cells step less heard before.0 later before.1 in
+      c.in_ok-event-in-Step.ensures ∙ ap (λ (cells : List ℕ). after_event (event_told c.loop-out.views.source c.in-Step.site c.in-Step.effect cells)
+      c.loop-out.views) c.as_slice.ensures in
+      let next = follows_step c.loop-out.machine c.watch.new.self c.args.until c.loop-out.views c.event.new.self c.in-Step.site c.in-Step.effect
+      c.watch.new.loads.cells step less heard before.0 later before.1 in
       (next.0, next.1, next.2 ∙ before.2);
 }
 

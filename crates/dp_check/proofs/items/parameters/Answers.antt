@@ -15,14 +15,16 @@ loop-name-init c =
 pub returns-in_err-parameter-clause-value : goal.returns-in_err-parameter-clause-value
 returns-in_err-parameter-clause-value c =
     let below : c.loop-name.name-index < length c.args.all.now = omega arith in
-    let refused = loop_refused params_answer param_answer with_scalar params_answer-more c.args.all.now c.loop-name.name-index c.loop-name.place c.loop-name.done _ c.loop-name.invariant.0 c.name-item.result below c.name-item.is in
+    let refused = loop_refused params_answer param_answer with_scalar params_answer-more c.args.all.now c.loop-name.name-index c.loop-name.place
+    c.loop-name.done _ c.loop-name.invariant.0 c.name-item.result below c.name-item.is in
     first_of (search rules, grind (arith, common_steps))
 
 pub loop-name-preserved : goal.loop-name-preserved
 loop-name-preserved c =
     let all = c.args.all.now in let i = c.loop-name.name-index in let p = c.loop-name.place in
     let below : c.loop-name.name-index < length c.args.all.now = omega arith in
-    let more = loop_more params_answer param_answer with_scalar params_answer-more all i p c.loop-name.done _ c.loop-name.invariant.0 c.name-item.result below c.name-item.is
+    let more = loop_more params_answer param_answer with_scalar params_answer-more all i p c.loop-name.done _ c.loop-name.invariant.0 c.name-item.result
+    below c.name-item.is
     c.in_ok-parameter.field-0 c.in_ok-parameter.ensures.value c.parameter.new.place c.in_ok-parameter.ensures.place in
     let rest = drop (i + 1) all in (
       more ∙ ap (λ d. onto d (params_answer c.parameter.new.place rest)) (sym c.in_ok-push.ensures.ok),
@@ -32,7 +34,8 @@ loop-name-preserved c =
 
 pub returns-clause-value : goal.returns-clause-value
 returns-clause-value c =
-    loop_end params_answer c.args.all.now c.loop-name.name-index c.loop-name.place c.loop-name.done c.loop-name.invariant.0 (omega arith) (params_answer-none c.loop-name.place)
+    loop_end params_answer c.args.all.now c.loop-name.name-index c.loop-name.place c.loop-name.done c.loop-name.invariant.0 (omega arith)
+    (params_answer-none c.loop-name.place)
 
 pub returns-clause-place : goal.returns-clause-place
 returns-clause-place c = sym (c.loop-name.invariant.1 ∙ at_drop_all (after_params c.loop-name.place) c.args.all.now c.loop-name.name-index (omega arith))

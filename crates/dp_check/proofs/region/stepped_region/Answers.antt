@@ -2,7 +2,7 @@ use Rattle.std.proofs.Common.{◌≡◌, ◌++◌, Ok, Err, sym, ◌∙◌, rule
 use Rattle.std.proofs.lemmas.Grind.{common_steps}
 use Rattle.dp_tree.specs.declared.Stmt.TheVariants as code
 use Rattle.dp_check.specs.declared.fail.CheckFail.{CheckFail}
-use Rattle.dp_check.specs.Place.{parts_all, passed}
+use Rattle.dp_check.specs.Place.{parts_all, place_passed}
 use Rattle.dp_check.specs.Answer.{loop_answer, stepped_answer}
 use Rattle.dp_check.proofs.RegionLemmas.{stepped_answer_refused, stepped_answer_given}
 use Rattle.dp_check.proofs.region.stepped_region.Goals as goal
@@ -24,4 +24,4 @@ returns-clause-value c =
 
 pub returns-clause-place : goal.returns-clause-place
 returns-clause-place c =
-    c.in_ok-body.ensures.place ∙ (λ i. passed (c.in_ok-site.ensures.place i) (parts_all c.args.body.now ++ parts_all c.args.step.now))
+    c.in_ok-body.ensures.place ∙ (λ i. place_passed (c.in_ok-site.ensures.place i) (parts_all c.args.body.now ++ parts_all c.args.step.now))

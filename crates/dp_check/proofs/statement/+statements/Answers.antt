@@ -6,9 +6,9 @@ use Rattle.dp_tree.specs.declared.raw.RawStmt.{RawStmt}
 use Rattle.dp_tree.specs.declared.raw.RawStmt.TheVariants as raw
 use Rattle.dp_check.specs.declared.fail.CheckFail.{CheckFail}
 use Rattle.dp_check.specs.declared.place.Place.{Place}
-use Rattle.dp_check.specs.Place.{after, after_all, parts_all, passed, sited}
+use Rattle.dp_check.specs.Place.{place_after, place_after_all, parts_all, place_passed, sited}
 use Rattle.dp_check.specs.Resolved.{next_site}
-use Rattle.dp_check.specs.Answer.{Gives, onto, with_last, expr_answer, statement_answer, block_answer, loop_answer}
+use Rattle.dp_check.specs.Answer.{GivesChecked, onto, with_last, expr_answer, statement_answer, block_answer, loop_answer}
 use Rattle.dp_check.proofs.AnswerLemmas.{onto-all, gives_behind, further, further_refused, loop_end}
 use Rattle.dp_check.proofs.PlaceLemmas.{passed-append, for_left, after-If, after-While, after-For}
 use Rattle.dp_check.proofs.Weight.{weight, weight_all, weight-If, weight-While, weight-For, weight_item}
@@ -21,28 +21,35 @@ use Rattle.dp_room.proofs.LoopLemmas.{fold_more}
 
 pub statement-returns-in-Declare-clause-value : goal.statement-returns-in-Declare-clause-value
 statement-returns-in-Declare-clause-value t c =
-    let w = c.in-Declare in rw w.is (gives_behind (statement_answer c.args.place.now (raw.Declare w.line w.name w.value)) c.args.done.now c.declare.result (c.declare.ensures.value w.line))
+    let w = c.in-Declare in
+    rw w.is (gives_behind (statement_answer c.args.place.now (raw.Declare w.line w.name w.value)) c.args.done.now c.declare.result
+    (c.declare.ensures.value w.line))
 
 pub statement-returns-in-Assign-clause-value : goal.statement-returns-in-Assign-clause-value
 statement-returns-in-Assign-clause-value t c =
-    let w = c.in-Assign in rw w.is (gives_behind (statement_answer c.args.place.now (raw.Assign w.name w.value)) c.args.done.now c.assign.result c.assign.ensures.value)
+    let w = c.in-Assign in
+    rw w.is (gives_behind (statement_answer c.args.place.now (raw.Assign w.name w.value)) c.args.done.now c.assign.result c.assign.ensures.value)
 
 pub statement-returns-in-Store-clause-value : goal.statement-returns-in-Store-clause-value
 statement-returns-in-Store-clause-value t c =
-    let w = c.in-Store in rw w.is (gives_behind (statement_answer c.args.place.now (raw.Store w.name w.index w.value)) c.args.done.now c.store.result c.store.ensures.value)
+    let w = c.in-Store in
+    rw w.is (gives_behind (statement_answer c.args.place.now (raw.Store w.name w.index w.value)) c.args.done.now c.store.result c.store.ensures.value)
 
 pub statement-returns-in-Print-clause-value : goal.statement-returns-in-Print-clause-value
 statement-returns-in-Print-clause-value t c =
-    let w = c.in-Print in rw w.is (gives_behind (statement_answer c.args.place.now (raw.Print w.line w.value)) c.args.done.now c.print.result (c.print.ensures.value w.line))
+    let w = c.in-Print in
+    rw w.is (gives_behind (statement_answer c.args.place.now (raw.Print w.line w.value)) c.args.done.now c.print.result (c.print.ensures.value w.line))
 
 pub statement-returns-in-Break-clause-value : goal.statement-returns-in-Break-clause-value
 statement-returns-in-Break-clause-value t c =
-    let w = c.in-Break in rw w.is (gives_behind (statement_answer c.args.place.now (raw.Break w.line w.cond)) c.args.done.now c.exit.result (c.exit.ensures.value w.line))
+    let w = c.in-Break in
+    rw w.is (gives_behind (statement_answer c.args.place.now (raw.Break w.line w.cond)) c.args.done.now c.exit.result (c.exit.ensures.value w.line))
 
 pub statement-returns-in-Call-clause-value : goal.statement-returns-in-Call-clause-value
 statement-returns-in-Call-clause-value t c =
     let w = c.in-Call in
-    rw w.is (subst (λ (args : List RawExpr). Gives (onto c.args.done.now (statement_answer c.args.place.now (raw.Call w.name args))) (with_last c.args.done.now c.call.result)) c.as_slice.ensures
+    rw w.is (subst (λ (args : List RawExpr). GivesChecked (onto c.args.done.now (statement_answer c.args.place.now (raw.Call w.name args)))
+    (with_last c.args.done.now c.call.result)) c.as_slice.ensures
     (gives_behind (statement_answer c.args.place.now (raw.Call w.name c.as_slice.result.now)) c.args.done.now c.call.result c.call.ensures))
 
 -- ---- statements with blocks
@@ -57,14 +64,16 @@ pub statement-returns-in-If-clause-value : goal.statement-returns-in-If-clause-v
 statement-returns-in-If-clause-value t c =
     let w = c.in-If in let one = c.as_slice-one in let two = c.as_slice-two in
     let is = (λ i. raw.If w.line w.cond (one.ensures i) (two.ensures i)) ∙ sym w.is in
-    subst (λ (s : RawStmt). Gives (onto c.args.done.now (statement_answer c.args.place.now s)) (with_last c.args.done.now c.conditional.result)) is
-    (gives_behind (statement_answer c.args.place.now (raw.If w.line w.cond one.result.now two.result.now)) c.args.done.now c.conditional.result (c.conditional.ensures.value w.line))
+    subst (λ (s : RawStmt). GivesChecked (onto c.args.done.now (statement_answer c.args.place.now s)) (with_last c.args.done.now c.conditional.result)) is
+    (gives_behind (statement_answer c.args.place.now (raw.If w.line w.cond one.result.now two.result.now)) c.args.done.now c.conditional.result
+    (c.conditional.ensures.value w.line))
 
 pub statement-returns-in-If-clause-place : goal.statement-returns-in-If-clause-place
 statement-returns-in-If-clause-place t c =
     let w = c.in-If in let one = c.as_slice-one in let two = c.as_slice-two in let p = c.args.place.now in
     let is = (λ i. raw.If w.line w.cond (one.ensures i) (two.ensures i)) ∙ sym w.is in
-    subst (λ (q : Place). OnOk c.conditional.result (c.conditional.new.place ≡ q)) (sym (after-If p w.line w.cond one.result.now two.result.now) ∙ ap (after p) is) c.conditional.ensures.place
+    subst (λ (q : Place). OnOk c.conditional.result (c.conditional.new.place ≡ q)) (sym (after-If p w.line w.cond one.result.now two.result.now)
+    ∙ ap (place_after p) is) c.conditional.ensures.place
 
 pub statement-repeated-requires : goal.statement-repeated-requires
 statement-repeated-requires t c =
@@ -76,63 +85,75 @@ pub statement-returns-in-While-clause-value : goal.statement-returns-in-While-cl
 statement-returns-in-While-clause-value t c =
     let w = c.in-While in let slice = c.as_slice-in-While in
     let is = ap (raw.While w.line w.marked w.cond) slice.ensures ∙ sym w.is in
-    subst (λ (s : RawStmt). Gives (onto c.args.done.now (statement_answer c.args.place.now s)) (with_last c.args.done.now c.repeated.result)) is
-    (gives_behind (statement_answer c.args.place.now (raw.While w.line w.marked w.cond slice.result.now)) c.args.done.now c.repeated.result (c.repeated.ensures.value w.line w.marked))
+    subst (λ (s : RawStmt). GivesChecked (onto c.args.done.now (statement_answer c.args.place.now s)) (with_last c.args.done.now c.repeated.result)) is
+    (gives_behind (statement_answer c.args.place.now (raw.While w.line w.marked w.cond slice.result.now)) c.args.done.now c.repeated.result
+    (c.repeated.ensures.value w.line w.marked))
 
 pub statement-returns-in-While-clause-place : goal.statement-returns-in-While-clause-place
 statement-returns-in-While-clause-place t c =
     let w = c.in-While in let slice = c.as_slice-in-While in let p = c.args.place.now in
     let is = ap (raw.While w.line w.marked w.cond) slice.ensures ∙ sym w.is in
-    subst (λ (q : Place). OnOk c.repeated.result (c.repeated.new.place ≡ q)) (sym (after-While p w.line w.marked w.cond slice.result.now) ∙ ap (after p) is) c.repeated.ensures.place
+    subst (λ (q : Place). OnOk c.repeated.result (c.repeated.new.place ≡ q)) (sym (after-While p w.line w.marked w.cond slice.result.now)
+    ∙ ap (place_after p) is) c.repeated.ensures.place
 
 pub statement-counted-requires : goal.statement-counted-requires
 statement-counted-requires t c =
     let w = c.in-For in let e = ap weight w.is ∙ weight-For w.line w.marked w.first w.cond w.step w.body in
-    let first = ap weight_all c.as_slice-first.ensures in let step = ap weight_all c.as_slice-step.ensures in let body = ap weight_all c.as_slice-body.ensures in
+    let first = ap weight_all c.as_slice-first.ensures in let step = ap weight_all c.as_slice-step.ensures in
+    let body = ap weight_all c.as_slice-body.ensures in
     (omega (arith, c.decreases, e, first, step, body), tt)
 
 pub statement-returns-in-For-clause-value : goal.statement-returns-in-For-clause-value
 statement-returns-in-For-clause-value t c =
     let w = c.in-For in
     let is = (λ i. raw.For w.line w.marked (c.as_slice-first.ensures i) w.cond (c.as_slice-step.ensures i) (c.as_slice-body.ensures i)) ∙ sym w.is in
-    subst (λ (s : RawStmt). Gives (onto c.args.done.now (statement_answer c.args.place.now s)) (with_last c.counted.new.done c.counted.result)) is (c.counted.ensures.value w.line w.marked)
+    subst (λ (s : RawStmt). GivesChecked (onto c.args.done.now (statement_answer c.args.place.now s)) (with_last c.counted.new.done c.counted.result)) is
+    (c.counted.ensures.value w.line w.marked)
 
 pub statement-returns-in-For-clause-place : goal.statement-returns-in-For-clause-place
 statement-returns-in-For-clause-place t c =
     let w = c.in-For in
     let is = (λ i. raw.For w.line w.marked (c.as_slice-first.ensures i) w.cond (c.as_slice-step.ensures i) (c.as_slice-body.ensures i)) ∙ sym w.is in
-    subst (λ (s : RawStmt). OnOk c.counted.result (c.counted.new.place ≡ after c.args.place.now s)) is (c.counted.ensures.place w.line w.marked)
+    subst (λ (s : RawStmt). OnOk c.counted.result (c.counted.new.place ≡ place_after c.args.place.now s)) is (c.counted.ensures.place w.line w.marked)
 
 -- ---- `for`
 
 pub counted-returns-in_err-statements-clause-value : goal.counted-returns-in_err-statements-clause-value
 counted-returns-in_err-statements-clause-value t c = λ line marked.
-    let p = c.args.place.now in let done = c.args.done.now in let first = c.args.first.now in let cond = c.args.cond.now in let step = c.args.step.now in let body = c.args.body.now in
-    let refused : (e : CheckFail) → onto done (block_answer p first) ≡ Err e → onto done (statement_answer p (raw.For line marked first cond step body)) ≡ Err e = λ e h.
+    let p = c.args.place.now in let done = c.args.done.now in let first = c.args.first.now in let cond = c.args.cond.now in let step = c.args.step.now in
+    let body = c.args.body.now in
+    let refused : (e : CheckFail) → onto done (block_answer p first) ≡ Err e →
+    onto done (statement_answer p (raw.For line marked first cond step body)) ≡ Err e = λ e h.
     steps.for_refused_at_first p done line marked first cond step body e h in
     first_of (search rules, grind (arith, common_steps))
 
 pub counted-returns-in_err-site-clause-value : goal.counted-returns-in_err-site-clause-value
 counted-returns-in_err-site-clause-value t c = λ line marked.
-    let p = c.args.place.now in let done = c.args.done.now in let first = c.args.first.now in let cond = c.args.cond.now in let step = c.args.step.now in let body = c.args.body.now in
+    let p = c.args.place.now in let done = c.args.done.now in let first = c.args.first.now in let cond = c.args.cond.now in let step = c.args.step.now in
+    let body = c.args.body.now in
     let start = c.in_ok-statements.ensures.place in
-    let refused : (e : CheckFail) → expr_answer c.statements.new.place.names cond ≡ Err e → onto done (statement_answer p (raw.For line marked first cond step body)) ≡ Err e = λ e h.
+    let refused : (e : CheckFail) → expr_answer c.statements.new.place.names cond ≡ Err e →
+    onto done (statement_answer p (raw.For line marked first cond step body)) ≡ Err e = λ e h.
     steps.for_refused_at_cond p done line marked first cond step body _ c.in_ok-statements.ensures.value e ((λ i. expr_answer (sym start i).names cond) ∙ h) in
     first_of (search rules, grind (arith, common_steps))
 
 pub counted-returns-in_err-body-clause-value : goal.counted-returns-in_err-body-clause-value
 counted-returns-in_err-body-clause-value t c = λ line marked.
-    let p = c.args.place.now in let done = c.args.done.now in let first = c.args.first.now in let cond = c.args.cond.now in let step = c.args.step.now in let body = c.args.body.now in
+    let p = c.args.place.now in let done = c.args.done.now in let first = c.args.first.now in let cond = c.args.cond.now in let step = c.args.step.now in
+    let body = c.args.body.now in
     let start = c.in_ok-statements.ensures.place in
     let tested = (λ i. expr_answer (sym start i).names cond) ∙ c.in_ok-site.ensures.expr in
     let behind = c.in_ok-site.ensures.place ∙ (λ i. sited (start i)) in
-    let refused : (e : CheckFail) → loop_answer c.evaluation.new.place step body ≡ Err e → onto done (statement_answer p (raw.For line marked first cond step body)) ≡ Err e = λ e h.
-    steps.for_refused_at_body p done line marked first cond step body _ c.in_ok-statements.ensures.value c.in_ok-site.cond tested e ((λ i. loop_answer (sym behind i) step body) ∙ h) in
+    let refused : (e : CheckFail) → loop_answer c.evaluation.new.place step body ≡ Err e →
+    onto done (statement_answer p (raw.For line marked first cond step body)) ≡ Err e = λ e h.
+    steps.for_refused_at_body p done line marked first cond step body _ c.in_ok-statements.ensures.value c.in_ok-site.cond tested e
+    ((λ i. loop_answer (sym behind i) step body) ∙ h) in
     first_of (search rules, grind (arith, common_steps))
 
 pub counted-returns-clause-value : goal.counted-returns-clause-value
 counted-returns-clause-value t c = λ line marked.
-    let p = c.args.place.now in let done = c.args.done.now in let first = c.args.first.now in let cond = c.args.cond.now in let step = c.args.step.now in let body = c.args.body.now in
+    let p = c.args.place.now in let done = c.args.done.now in let first = c.args.first.now in let cond = c.args.cond.now in let step = c.args.step.now in
+    let body = c.args.body.now in
     let start = c.in_ok-statements.ensures.place in
     let tested = (λ i. expr_answer (sym start i).names cond) ∙ c.in_ok-site.ensures.expr in
     let behind = c.in_ok-site.ensures.place ∙ (λ i. sited (start i)) in
@@ -145,7 +166,7 @@ pub counted-returns-clause-place : goal.counted-returns-clause-place
 counted-returns-clause-place t c = λ line marked.
     let p = c.args.place.now in let first = c.args.first.now in let step = c.args.step.now in let body = c.args.body.now in
     let behind = c.in_ok-site.ensures.place ∙ (λ i. sited (c.in_ok-statements.ensures.place i)) in
-    let ended = c.in_ok-body.ensures.place ∙ (λ i. passed (behind i) (parts_all body ++ parts_all step)) in
+    let ended = c.in_ok-body.ensures.place ∙ (λ i. place_passed (behind i) (parts_all body ++ parts_all step)) in
     let kept = c.keep.ensures ∙ (λ i. take (c.len-count.ensures i) (ended i).names) in
     (λ i. record { names = kept i; variable = (ended i).variable; site = (ended i).site }) ∙ for_left p first line (parts_all body ++ parts_all step)
     ∙ sym (after-For p line marked first c.args.cond.now step body)
@@ -155,8 +176,8 @@ counted-returns-clause-place t c = λ line marked.
 pub looped-returns-clause-place : goal.looped-returns-clause-place
 looped-returns-clause-place t c =
     let p = c.args.place.now in let step = c.args.step.now in let body = c.args.body.now in
-    let body_end = c.in_ok-inside.ensures.place ∙ ap (λ q. passed q (parts_all body)) c.in_ok-last.ensures.place in
-    c.in_ok-pass_all.ensures.place ∙ ap (λ q. passed q (parts_all step)) body_end ∙ sym (passed-append p (parts_all body) (parts_all step))
+    let body_end = c.in_ok-inside.ensures.place ∙ ap (λ q. place_passed q (parts_all body)) c.in_ok-last.ensures.place in
+    c.in_ok-pass_all.ensures.place ∙ ap (λ q. place_passed q (parts_all step)) body_end ∙ sym (passed-append p (parts_all body) (parts_all step))
 
 -- ---- several statements
 
@@ -169,17 +190,19 @@ statements-statement-requires t c =
 pub statements-returns-in_err-last-clause-value : goal.statements-returns-in_err-last-clause-value
 statements-returns-in_err-last-clause-value t c =
     let below : c.loop-s.s-index < length c.args.all.now = omega arith in
-    let refused = further_refused block_answer statement_answer after block_answer-more c.args.all.now c.loop-s.s-index c.loop-s.place c.loop-s.done _ c.loop-s.invariant.0 c.s-item.result below c.s-item.is in
+    let refused = further_refused block_answer statement_answer place_after block_answer-more c.args.all.now c.loop-s.s-index c.loop-s.place c.loop-s.done _
+    c.loop-s.invariant.0 c.s-item.result below c.s-item.is in
     first_of (search rules, grind (arith, common_steps))
 
 pub statements-loop-s-preserved : goal.statements-loop-s-preserved
 statements-loop-s-preserved t c =
     let all = c.args.all.now in let i = c.loop-s.s-index in let p = c.loop-s.place in
     let below : c.loop-s.s-index < length c.args.all.now = omega arith in let rest = drop (i + 1) all in (
-      further block_answer statement_answer after block_answer-more all i p c.loop-s.done _ c.loop-s.invariant.0 c.s-item.result below c.s-item.is
+      further block_answer statement_answer place_after block_answer-more all i p c.loop-s.done _ c.loop-s.invariant.0 c.s-item.result below c.s-item.is
           (c.statement.new.done ++ c.in_ok-last.last ∷ []) c.in_ok-last.ensures.value c.statement.new.place c.in_ok-last.ensures.place
           ∙ ap (λ d. onto d (block_answer c.statement.new.place rest)) (sym c.in_ok-push.ensures.ok),
-      fold_more after_all after (λ q s others. refl) all i p _ c.loop-s.invariant.1 c.s-item.result below c.s-item.is c.statement.new.place c.in_ok-last.ensures.place,
+      fold_more place_after_all place_after (λ q s others. refl) all i p _ c.loop-s.invariant.1 c.s-item.result below c.s-item.is c.statement.new.place
+          c.in_ok-last.ensures.place,
     )
 
 pub statements-returns-clause-value : goal.statements-returns-clause-value
@@ -189,7 +212,8 @@ statements-returns-clause-value t c =
 pub block-returns-in_err-statements-clause-value : goal.block-returns-in_err-statements-clause-value
 block-returns-in_err-statements-clause-value t c =
     let answer = block_answer c.args.place.now c.args.all.now in
-    let refused : (e : CheckFail) → onto c.new-done.result answer ≡ Err e → answer ≡ Err e = λ e h. sym (onto-all answer) ∙ ap (λ d. onto d answer) (sym c.new-done.ensures) ∙ h in
+    let refused : (e : CheckFail) → onto c.new-done.result answer ≡ Err e → answer ≡ Err e = λ e h. sym (onto-all answer)
+    ∙ ap (λ d. onto d answer) (sym c.new-done.ensures) ∙ h in
     first_of (search rules, grind (arith, common_steps))
 
 pub block-returns-clause-value : goal.block-returns-clause-value
@@ -201,8 +225,9 @@ block-returns-clause-value t c =
 
 pub step_of-returns-in_err-last-clause-value : goal.step_of-returns-in_err-last-clause-value
 step_of-returns-in_err-last-clause-value t c =
-    let step = c.args.step.now in let q = passed c.args.place.now (parts_all c.args.body.now) in
-    let refused : (e : CheckFail) → block_answer c.pass_all.new.place step ≡ Err e → block_answer q step ≡ Err e = λ e h. ap (λ r. block_answer r step) (sym c.in_ok-pass_all.ensures.place) ∙ h in
+    let step = c.args.step.now in let q = place_passed c.args.place.now (parts_all c.args.body.now) in
+    let refused : (e : CheckFail) → block_answer c.pass_all.new.place step ≡ Err e → block_answer q step ≡ Err e = λ e h. ap (λ r. block_answer r step)
+    (sym c.in_ok-pass_all.ensures.place) ∙ h in
     first_of (search rules, grind (arith, common_steps))
 
 pub step_of-returns-clause-value : goal.step_of-returns-clause-value
@@ -210,5 +235,5 @@ step_of-returns-clause-value t c = ap (λ r. block_answer r c.args.step.now) (sy
 
 pub step_of-returns-clause-place : goal.step_of-returns-clause-place
 step_of-returns-clause-place t c =
-    let ended = c.in_ok-last.ensures.place ∙ ap (λ q. passed q (parts_all c.args.step.now)) c.in_ok-pass_all.ensures.place in
+    let ended = c.in_ok-last.ensures.place ∙ ap (λ q. place_passed q (parts_all c.args.step.now)) c.in_ok-pass_all.ensures.place in
     c.renumber.ensures ∙ (λ i. record { names = (ended i).names; variable = (c.numbers-start.ensures i).variable; site = (c.numbers-start.ensures i).site })

@@ -1,7 +1,7 @@
 use Rattle.std.proofs.Common.{arith, ◌+◌, ◌≤◌}
 use Rattle.dp_epoch.specs.declared.ends.EpochEnd.{EpochEnd}
 use Rattle.dp_epoch.specs.declared.ledger.Ledger.{Ledger}
-use Rattle.dp_epoch.specs.Applied.{left_of}
+use Rattle.dp_epoch.specs.Applied.{steps_left}
 use Rattle.dp_crew.specs.EpochRan.{made_at_least}
 use Rattle.dp_crew.proofs.Answering.{err_ok, if_ok}
 use Rattle.dp_crew.proofs.EpochRuns.{joined, stops_so}
@@ -33,14 +33,15 @@ pub returns-in_err-followed-clause-ran : goal.returns-in_err-followed-clause-ran
 returns-in_err-followed-clause-ran g c = stops_so _ _ _ _ _ _ _ _ _ _ c.in_err-followed.ensures.followed c.from_residual.result c.from_residual.ensures.1
 
 pub returns-clause-ran : goal.returns-clause-ran
-returns-clause-ran g c = joined _ _ _ _ _ _ _ _ _ _ _ _ _ _ c.in_ok-followed.ensures.followed (λ first b e. record { at_epoch = e; program_is = b.program_is; input_is = b.input_is }) c.run_behind.result c.run_behind.ensures.ran
+returns-clause-ran g c = joined _ _ _ _ _ _ _ _ _ _ _ _ _ _ c.in_ok-followed.ensures.followed
+    (λ first b e. record { at_epoch = e; program_is = b.program_is; input_is = b.input_is }) c.run_behind.result c.run_behind.ensures.ran
 
 pub returns-clause-falls : goal.returns-clause-falls
 returns-clause-falls g c =
     let left = c.in_ok-followed.ensures.followed.left in
     if_ok c.run_behind.result
-    (λ (r : Ledger × EpochEnd). left_of r.0.committed + made_at_least r.1 ≤ left_of c.in_ok-followed.followed.committed)
-    (λ (r : Ledger × EpochEnd). left_of r.0.committed + made_at_least r.1 ≤ left_of c.args.ledger.committed)
+    (λ (r : Ledger × EpochEnd). steps_left r.0.committed + made_at_least r.1 ≤ steps_left c.in_ok-followed.followed.committed)
+    (λ (r : Ledger × EpochEnd). steps_left r.0.committed + made_at_least r.1 ≤ steps_left c.args.ledger.committed)
     (λ r less. omega (arith, less, left)) c.run_behind.ensures.falls
 
 pub returns-in_err-followed-clause-falls : goal.returns-in_err-followed-clause-falls

@@ -4,7 +4,7 @@ use Rattle.dp_semantics.specs.EpochKey.{EpochKey}
 use Rattle.dp_pipeline.specs.Coming.{Coming}
 use Rattle.dp_epoch.specs.declared.taken.Taken.{Taken}
 use Rattle.dp_epoch.specs.InEpoch.{InEpoch}
-use Rattle.dp_epoch.specs.Taken.{Takes}
+use Rattle.dp_epoch.specs.Taken.{TakesVerdict}
 use Rattle.dp_epoch.proofs.EpochLemmas.{report_here}
 use Rattle.dp_crew.proofs.StreamLemmas.{emits_front, emits_nothing, emits_on, emits_stopped}
 use Rattle.dp_crew.proofs.EpochRuns.{failed_so, left_anywhere, stopped}
@@ -16,7 +16,8 @@ take-requires-clause-epoch g c =
     let first = c.requires.epoch.0 in (
       first,
       subst (λ (v : Coming). InEpoch v.key v.given first c.verdicts.ledger.committed c.verdicts.ledger.account) (sym c.await_one.ensures)
-          (subst (λ (k : EpochKey). InEpoch k c.verdicts.verdicts.given first c.verdicts.ledger.committed c.verdicts.ledger.account) (sym c.verdicts.invariant.key) (c.verdicts.invariant.epoch first c.requires.epoch.1)),
+          (subst (λ (k : EpochKey). InEpoch k c.verdicts.verdicts.given first c.verdicts.ledger.committed c.verdicts.ledger.account)
+          (sym c.verdicts.invariant.key) (c.verdicts.invariant.epoch first c.requires.epoch.1)),
     )
 
 pub returns-in_err-taken-clause-ran : goal.returns-in_err-taken-clause-ran
@@ -27,9 +28,12 @@ returns-in_err-taken-clause-ran g c =
 
 pub returns-in_err-flush_if_many-clause-ran : goal.returns-in_err-flush_if_many-clause-ran
 returns-in_err-flush_if_many-clause-ran g c =
-    let t = subst (λ (k : EpochKey). Takes k c.verdicts.verdicts.given c.verdicts.ledger c.take.new.ledger c.in_ok-taken.taken c.verdicts.tally c.take.new.tally) c.verdicts.invariant.key (subst (λ (v : Coming). Takes v.key v.given c.verdicts.ledger c.take.new.ledger c.in_ok-taken.taken c.verdicts.tally c.take.new.tally) c.await_one.ensures c.in_ok-taken.ensures.taken) in
+    let t = subst (λ (k : EpochKey). TakesVerdict k c.verdicts.verdicts.given c.verdicts.ledger c.take.new.ledger c.in_ok-taken.taken c.verdicts.tally
+    c.take.new.tally) c.verdicts.invariant.key (subst (λ (v : Coming). TakesVerdict v.key v.given c.verdicts.ledger c.take.new.ledger c.in_ok-taken.taken
+    c.verdicts.tally c.take.new.tally) c.await_one.ensures c.in_ok-taken.ensures.taken) in
     stopped _ _ _ _ _ _ _ _ _ _ _ _ c.from_residual-in_err-flush_if_many.ensures.0
-    (failed_so c.from_residual-in_err-flush_if_many.result _ _ _ _ c.from_residual-in_err-flush_if_many.ensures.1 c.in_err-flush_if_many.ensures.faults c.verdicts.invariant.faults)
+    (failed_so c.from_residual-in_err-flush_if_many.result _ _ _ _ c.from_residual-in_err-flush_if_many.ensures.1 c.in_err-flush_if_many.ensures.faults
+    c.verdicts.invariant.faults)
     (λ first e. emits_front _ _ _ _ _ (c.verdicts.invariant.emits first e)
     (front_of_taken _ _ first _ _ _ _ _ t (c.verdicts.invariant.epoch first e) _ _ c.in_err-flush_if_many.ensures.streams))
 
@@ -38,14 +42,18 @@ verdicts-smaller g c = c.in_ok-taken.ensures.taken.falls c.in-Committed.is
 
 pub verdicts-preserved : goal.verdicts-preserved
 verdicts-preserved g c =
-    let t = subst (λ (x : Taken). Takes c.args.verdicts.now.key c.verdicts.verdicts.given c.verdicts.ledger c.take.new.ledger x c.verdicts.tally c.take.new.tally) c.in-Committed.is
-    (subst (λ (k : EpochKey). Takes k c.verdicts.verdicts.given c.verdicts.ledger c.take.new.ledger c.in_ok-taken.taken c.verdicts.tally c.take.new.tally) c.verdicts.invariant.key (subst (λ (v : Coming). Takes v.key v.given c.verdicts.ledger c.take.new.ledger c.in_ok-taken.taken c.verdicts.tally c.take.new.tally) c.await_one.ensures c.in_ok-taken.ensures.taken)) in
+    let t = subst (λ (x : Taken). TakesVerdict c.args.verdicts.now.key c.verdicts.verdicts.given c.verdicts.ledger c.take.new.ledger x c.verdicts.tally
+    c.take.new.tally) c.in-Committed.is
+    (subst (λ (k : EpochKey). TakesVerdict k c.verdicts.verdicts.given c.verdicts.ledger c.take.new.ledger c.in_ok-taken.taken c.verdicts.tally
+    c.take.new.tally) c.verdicts.invariant.key (subst (λ (v : Coming). TakesVerdict v.key v.given c.verdicts.ledger c.take.new.ledger c.in_ok-taken.taken
+    c.verdicts.tally c.take.new.tally) c.await_one.ensures c.in_ok-taken.ensures.taken)) in
     let balance = c.verdicts.invariant.tally in
     let left = c.verdicts.invariant.left in
     let counted = t.counted in
     let less = t.left in
     record {
-      epoch = λ first e. subst (λ n. InEpoch c.args.verdicts.now.key n first c.take.new.ledger.committed c.take.new.ledger.account) (sym (c.in_ok-taken.ensures.given ∙ ap (λ (v : Coming). v.given + 1) c.await_one.ensures)) (t.stands first (c.verdicts.invariant.epoch first e));
+      epoch = λ first e. subst (λ n. InEpoch c.args.verdicts.now.key n first c.take.new.ledger.committed c.take.new.ledger.account)
+          (sym (c.in_ok-taken.ensures.given ∙ ap (λ (v : Coming). v.given + 1) c.await_one.ensures)) (t.stands first (c.verdicts.invariant.epoch first e));
       key = c.in_ok-taken.ensures.key ∙ ap (λ (v : Coming). v.key) c.await_one.ensures ∙ c.verdicts.invariant.key;
       tally = omega (arith, counted, balance);
       left = omega (arith, less, left);
@@ -77,8 +85,11 @@ returns-then-leaves-clause-falls g c =
 
 pub returns-then-leaves-clause-ran : goal.returns-then-leaves-clause-ran
 returns-then-leaves-clause-ran g c =
-    let t = subst (λ (x : Taken). Takes c.args.verdicts.now.key c.verdicts.verdicts.given c.verdicts.ledger c.take.new.ledger x c.verdicts.tally c.take.new.tally) c.in-Committed.is
-    (subst (λ (k : EpochKey). Takes k c.verdicts.verdicts.given c.verdicts.ledger c.take.new.ledger c.in_ok-taken.taken c.verdicts.tally c.take.new.tally) c.verdicts.invariant.key (subst (λ (v : Coming). Takes v.key v.given c.verdicts.ledger c.take.new.ledger c.in_ok-taken.taken c.verdicts.tally c.take.new.tally) c.await_one.ensures c.in_ok-taken.ensures.taken)) in
+    let t = subst (λ (x : Taken). TakesVerdict c.args.verdicts.now.key c.verdicts.verdicts.given c.verdicts.ledger c.take.new.ledger x c.verdicts.tally
+    c.take.new.tally) c.in-Committed.is
+    (subst (λ (k : EpochKey). TakesVerdict k c.verdicts.verdicts.given c.verdicts.ledger c.take.new.ledger c.in_ok-taken.taken c.verdicts.tally
+    c.take.new.tally) c.verdicts.invariant.key (subst (λ (v : Coming). TakesVerdict v.key v.given c.verdicts.ledger c.take.new.ledger c.in_ok-taken.taken
+    c.verdicts.tally c.take.new.tally) c.await_one.ensures c.in_ok-taken.ensures.taken)) in
     let balance = c.verdicts.invariant.tally in
     let left = c.verdicts.invariant.left in
     let counted = t.counted in
@@ -98,8 +109,11 @@ returns-then-leaves-clause-ran g c =
 
 pub returns-in-Closed-clause-ran : goal.returns-in-Closed-clause-ran
 returns-in-Closed-clause-ran g c =
-    let t = subst (λ (x : Taken). Takes c.args.verdicts.now.key c.verdicts.verdicts.given c.verdicts.ledger c.take.new.ledger x c.verdicts.tally c.take.new.tally) c.in-Closed.is
-    (subst (λ (k : EpochKey). Takes k c.verdicts.verdicts.given c.verdicts.ledger c.take.new.ledger c.in_ok-taken.taken c.verdicts.tally c.take.new.tally) c.verdicts.invariant.key (subst (λ (v : Coming). Takes v.key v.given c.verdicts.ledger c.take.new.ledger c.in_ok-taken.taken c.verdicts.tally c.take.new.tally) c.await_one.ensures c.in_ok-taken.ensures.taken)) in
+    let t = subst (λ (x : Taken). TakesVerdict c.args.verdicts.now.key c.verdicts.verdicts.given c.verdicts.ledger c.take.new.ledger x c.verdicts.tally
+    c.take.new.tally) c.in-Closed.is
+    (subst (λ (k : EpochKey). TakesVerdict k c.verdicts.verdicts.given c.verdicts.ledger c.take.new.ledger c.in_ok-taken.taken c.verdicts.tally
+    c.take.new.tally) c.verdicts.invariant.key (subst (λ (v : Coming). TakesVerdict v.key v.given c.verdicts.ledger c.take.new.ledger c.in_ok-taken.taken
+    c.verdicts.tally c.take.new.tally) c.await_one.ensures c.in_ok-taken.ensures.taken)) in
     let balance = c.verdicts.invariant.tally in
     let left = c.verdicts.invariant.left in
     let counted = t.counted in
@@ -118,8 +132,11 @@ returns-in-Closed-clause-ran g c =
 
 pub returns-in-Unclean-clause-ran : goal.returns-in-Unclean-clause-ran
 returns-in-Unclean-clause-ran g c =
-    let t = subst (λ (x : Taken). Takes c.args.verdicts.now.key c.verdicts.verdicts.given c.verdicts.ledger c.take.new.ledger x c.verdicts.tally c.take.new.tally) c.in-Unclean.is
-    (subst (λ (k : EpochKey). Takes k c.verdicts.verdicts.given c.verdicts.ledger c.take.new.ledger c.in_ok-taken.taken c.verdicts.tally c.take.new.tally) c.verdicts.invariant.key (subst (λ (v : Coming). Takes v.key v.given c.verdicts.ledger c.take.new.ledger c.in_ok-taken.taken c.verdicts.tally c.take.new.tally) c.await_one.ensures c.in_ok-taken.ensures.taken)) in
+    let t = subst (λ (x : Taken). TakesVerdict c.args.verdicts.now.key c.verdicts.verdicts.given c.verdicts.ledger c.take.new.ledger x c.verdicts.tally
+    c.take.new.tally) c.in-Unclean.is
+    (subst (λ (k : EpochKey). TakesVerdict k c.verdicts.verdicts.given c.verdicts.ledger c.take.new.ledger c.in_ok-taken.taken c.verdicts.tally
+    c.take.new.tally) c.verdicts.invariant.key (subst (λ (v : Coming). TakesVerdict v.key v.given c.verdicts.ledger c.take.new.ledger c.in_ok-taken.taken
+    c.verdicts.tally c.take.new.tally) c.await_one.ensures c.in_ok-taken.ensures.taken)) in
     let balance = c.verdicts.invariant.tally in
     let left = c.verdicts.invariant.left in
     let counted = t.counted in

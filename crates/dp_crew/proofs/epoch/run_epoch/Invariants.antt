@@ -1,8 +1,8 @@
 use Rattle.std.proofs.Common.{◌≡◌, ◌≤◌, ◌+◌}
 use Rattle.dp_meaning.specs.MachineState.{MachineState}
-use Rattle.dp_epoch.specs.Applied.{HasRoom, left_of}
+use Rattle.dp_epoch.specs.Applied.{HasRoomForVerdicts, steps_left}
 use Rattle.dp_epoch.specs.InEpoch.{InEpoch}
-use Rattle.dp_epoch.specs.Prints.{to_come}
+use Rattle.dp_epoch.specs.Prints.{prints_to_come}
 use Rattle.dp_crew.specs.Output.{Emits}
 use Rattle.dp_crew.proofs.epoch.run_epoch.Given as goal
 
@@ -12,15 +12,16 @@ invariant-verdicts g l = record {
       InEpoch l.fn.verdicts.key l.verdicts.given first l.ledger.committed l.ledger.account;
   key : l.verdicts.key ≡ l.fn.verdicts.key;
   tally : l.tally + l.fn.ledger.committed.count ≡ l.fn.tally + l.ledger.committed.count;
-  left : left_of l.ledger.committed ≤ left_of l.fn.ledger.committed;
-  room : HasRoom l.tally l.ledger.committed;
+  left : steps_left l.ledger.committed ≤ steps_left l.fn.ledger.committed;
+  room : HasRoomForVerdicts l.tally l.ledger.committed;
   report : l.ledger.account.report ≡ record l.fn.ledger.account.report { iterations = l.ledger.committed.count };
   why : l.ledger.account.why ≡ l.fn.ledger.account.why;
   emits : (first : MachineState) → InEpoch l.fn.verdicts.key l.fn.verdicts.given first l.fn.ledger.committed l.fn.ledger.account →
-      Emits (to_come l.fn.verdicts.key.plan first l.fn.ledger.waiting l.fn.ledger.committed.count) (to_come l.fn.verdicts.key.plan first l.ledger.waiting l.ledger.committed.count)
+      Emits (prints_to_come l.fn.verdicts.key.plan first l.fn.ledger.waiting l.fn.ledger.committed.count)
+      (prints_to_come l.fn.verdicts.key.plan first l.ledger.waiting l.ledger.committed.count)
       (g.K.Sink.written l.fn.sink) (g.K.Sink.written l.sink);
   faults : g.K.Sink.faults l.sink ≡ g.K.Sink.faults l.fn.sink;
 }
 
 abbrev pub decreases-verdicts : goal.decreases-verdicts
-decreases-verdicts g l = left_of l.ledger.committed
+decreases-verdicts g l = steps_left l.ledger.committed

@@ -15,7 +15,12 @@ pub run_one_epoch-requires-clause-epoch : goal.run_one_epoch-requires-clause-epo
 run_one_epoch-requires-clause-epoch g c κs within = (c.requires.start.0, c.epochs.invariant.begins c.requires.start.0 c.requires.start.1)
 
 pub recover-requires-clause-ended : goal.recover-requires-clause-ended
-recover-requires-clause-ended g c = (c.args.work.region.now.plan, c.requires.start.0, c.in_ok-after.ensures.ran.ends c.requires.start.0 (c.epochs.invariant.begins c.requires.start.0 c.requires.start.1))
+recover-requires-clause-ended g c = (
+  c.args.work.region.now.plan,
+  c.requires.start.0,
+  c.in_ok-after.ensures.ran.ends c.requires.start.0 (c.epochs.invariant.begins c.requires.start.0
+      c.requires.start.1),
+)
 
 pub recover-requires-clause-sink : goal.recover-requires-clause-sink
 recover-requires-clause-sink g c =
@@ -25,11 +30,13 @@ recover-requires-clause-sink g c =
     omega (arith, same, before, low)
 
 pub returns-in_err-after-clause-faults : goal.returns-in_err-after-clause-faults
-returns-in_err-after-clause-faults g c = failed_so c.from_residual.result _ _ _ _ c.from_residual.ensures.1 c.in_err-after.ensures.ran.faults_are c.epochs.invariant.faults
+returns-in_err-after-clause-faults g c =
+    failed_so c.from_residual.result _ _ _ _ c.from_residual.ensures.1 c.in_err-after.ensures.ran.faults_are c.epochs.invariant.faults
 
 pub returns-in_err-next-clause-faults : goal.returns-in_err-next-clause-faults
 returns-in_err-next-clause-faults g c =
-    failed_so c.from_residual-in_err-next.result _ _ _ _ c.from_residual-in_err-next.ensures.1 c.in_err-next.ensures.faults (c.in_ok-after.ensures.ran.faults_are ∙ c.epochs.invariant.faults)
+    failed_so c.from_residual-in_err-next.result _ _ _ _ c.from_residual-in_err-next.ensures.1 c.in_err-next.ensures.faults
+    (c.in_ok-after.ensures.ran.faults_are ∙ c.epochs.invariant.faults)
 
 pub returns-in-Some-clause-faults : goal.returns-in-Some-clause-faults
 returns-in-Some-clause-faults g c = c.in_ok-next.ensures.faults ∙ c.in_ok-after.ensures.ran.faults_are ∙ c.epochs.invariant.faults
@@ -48,14 +55,16 @@ returns-in-Some-clause-tally g c =
 
 pub returns-in_err-after-clause-streams : goal.returns-in_err-after-clause-streams
 returns-in_err-after-clause-streams g c first b =
-    streams_stopped _ _ _ _ _ c.from_residual.ensures.0 (emits_front _ _ _ _ _ (c.epochs.invariant.emits first b) (c.in_err-after.ensures.ran.streams first (c.epochs.invariant.begins first b)))
+    streams_stopped _ _ _ _ _ c.from_residual.ensures.0 (emits_front _ _ _ _ _ (c.epochs.invariant.emits first b)
+    (c.in_err-after.ensures.ran.streams first (c.epochs.invariant.begins first b)))
 
 pub returns-in_err-next-clause-streams : goal.returns-in_err-next-clause-streams
 returns-in_err-next-clause-streams g c first b =
     let ran = c.in_ok-after.ensures.ran in
     let here = c.epochs.invariant.begins first b in
     streams_stopped _ _ _ _ _ c.from_residual-in_err-next.ensures.0
-    (emits_front _ _ _ _ _ (emits_on _ _ _ _ _ _ (c.epochs.invariant.emits first b) (ran.streams first here)) (c.in_err-next.ensures.streams c.args.work.region.now.plan first (ran.ends first here)))
+    (emits_front _ _ _ _ _ (emits_on _ _ _ _ _ _ (c.epochs.invariant.emits first b) (ran.streams first here))
+    (c.in_err-next.ensures.streams c.args.work.region.now.plan first (ran.ends first here)))
 
 pub returns-in-Some-clause-ok : goal.returns-in-Some-clause-ok
 returns-in-Some-clause-ok g c first b =
@@ -67,7 +76,9 @@ returns-in-Some-clause-streams g c first b =
     let ran = c.in_ok-after.ensures.ran in
     let here = c.epochs.invariant.begins first b in
     emits_on _ _ _ _ _ _ (emits_on _ _ _ _ _ _ (c.epochs.invariant.emits first b) (ran.streams first here))
-    (subst (λ (x : Option RegionEnd). Emits (left_by_epoch c.args.work.region.now.plan first c.in_ok-after.after.waiting c.in_ok-after.after.committed.count c.in_ok-after.end) (left_by_recovery c.args.work.region.now.plan first c.in_ok-next.next.waiting c.in_ok-next.next.committed.count x) (g.K.Sink.written c.run_one_epoch.new.sink) (g.K.Sink.written c.recover.new.sink))
+    (subst (λ (x : Option RegionEnd). Emits (left_by_epoch c.args.work.region.now.plan first c.in_ok-after.after.waiting c.in_ok-after.after.committed.count
+    c.in_ok-after.end) (left_by_recovery c.args.work.region.now.plan first c.in_ok-next.next.waiting c.in_ok-next.next.committed.count x)
+    (g.K.Sink.written c.run_one_epoch.new.sink) (g.K.Sink.written c.recover.new.sink))
     c.in-Some.is (c.in_ok-next.ensures.streams c.args.work.region.now.plan first (ran.ends first here)))
 
 pub epochs-preserved : goal.epochs-preserved
@@ -84,7 +95,8 @@ epochs-preserved g c =
     let room = ran.room in
     record {
       begins = λ first b. record {
-        at_epoch = subst (λ (x : Option RegionEnd). AfterRecovery c.args.work.region.now.plan first c.in_ok-next.next.committed c.in_ok-next.next.account x) c.in-None.is
+        at_epoch = subst (λ (x : Option RegionEnd). AfterRecovery c.args.work.region.now.plan first c.in_ok-next.next.committed
+            c.in_ok-next.next.account x) c.in-None.is
             (c.in_ok-next.ensures.ok c.args.work.region.now.plan first (ran.ends first (c.epochs.invariant.begins first b)));
         program_is = b.program_is;
         input_is = b.input_is;
@@ -93,7 +105,9 @@ epochs-preserved g c =
       why = c.in_ok-next.ensures.why ∙ ran.why ∙ c.epochs.invariant.why;
       room = omega (arith, less, room);
       emits = λ first b. emits_on _ _ _ _ _ _ (emits_on _ _ _ _ _ _ (c.epochs.invariant.emits first b) (ran.streams first (c.epochs.invariant.begins first b)))
-          (subst (λ (x : Option RegionEnd). Emits (left_by_epoch c.args.work.region.now.plan first c.in_ok-after.after.waiting c.in_ok-after.after.committed.count c.in_ok-after.end) (left_by_recovery c.args.work.region.now.plan first c.in_ok-next.next.waiting c.in_ok-next.next.committed.count x) (g.K.Sink.written c.run_one_epoch.new.sink) (g.K.Sink.written c.recover.new.sink))
+          (subst (λ (x : Option RegionEnd). Emits (left_by_epoch c.args.work.region.now.plan first c.in_ok-after.after.waiting
+          c.in_ok-after.after.committed.count c.in_ok-after.end) (left_by_recovery c.args.work.region.now.plan first c.in_ok-next.next.waiting
+          c.in_ok-next.next.committed.count x) (g.K.Sink.written c.run_one_epoch.new.sink) (g.K.Sink.written c.recover.new.sink))
           c.in-None.is (c.in_ok-next.ensures.streams c.args.work.region.now.plan first (ran.ends first (c.epochs.invariant.begins first b))));
       faults = c.in_ok-next.ensures.faults ∙ ran.faults_are ∙ c.epochs.invariant.faults;
     }

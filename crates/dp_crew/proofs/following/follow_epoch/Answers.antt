@@ -12,7 +12,8 @@ follow_verdicts-followed-requires-clause-epoch g c κs within =
     let first = c.requires.epoch.0 in (
       c.args.work.region.now.plan,
       first,
-      follows_here _ _ c.requires.other c.is_planned.ensures c.args.work.input.now c.args.ledger _ (c.polling-polled.ensures ∙ c.in_ok-units.ensures.verdicts) first c.requires.epoch.1,
+      follows_here _ _ c.requires.other c.is_planned.ensures c.args.work.input.now c.args.ledger _ (c.polling-polled.ensures ∙ c.in_ok-units.ensures.verdicts)
+          first c.requires.epoch.1,
       ap (λ (p : Plan). p.words) c.plan.ensures,
     )
 
@@ -26,4 +27,8 @@ pub returns-in_err-units : goal.returns-in_err-units
 returns-in_err-units g c = record { followed = unbegun _ _ _ _ _ c.from_residual-in_err-units.result _ _ _ c.from_residual-in_err-units.ensures.1 }
 
 pub returns : goal.returns
-returns g c = record { followed = followed_here _ _ c.requires.other c.is_planned.ensures c.args.work.input.now c.args.ledger _ (c.polling-polled.ensures ∙ c.in_ok-units.ensures.verdicts) c.follow_verdicts-followed.result _ _ _ _ _ _ (c.follow_verdicts-followed.ensures.followed c.args.work.region.now.plan (ap (λ (p : Plan). p.words) c.plan.ensures)) }
+returns g c = record {
+  followed = followed_here _ _ c.requires.other c.is_planned.ensures c.args.work.input.now c.args.ledger _ (c.polling-polled.ensures
+      ∙ c.in_ok-units.ensures.verdicts) c.follow_verdicts-followed.result _ _ _ _ _ _ (c.follow_verdicts-followed.ensures.followed c.args.work.region.now.plan
+      (ap (λ (p : Plan). p.words) c.plan.ensures));
+}

@@ -11,7 +11,8 @@ returns-clause-ok g c =
     let q = c.in_ok-end.ensures.ok in (
       q.0,
       q.1,
-      subst (λ (xs : List ℤ). Emits xs c.flush_if_many.new.waiting (g.K.Sink.written c.args.sink.now) (g.K.Sink.written c.flush_if_many.new.sink)) q.2 c.in_ok-flush_if_many.ensures.streams,
+      subst (λ (xs : List ℤ). Emits xs c.flush_if_many.new.waiting (g.K.Sink.written c.args.sink.now) (g.K.Sink.written c.flush_if_many.new.sink)) q.2
+          c.in_ok-flush_if_many.ensures.streams,
     )
 
 pub returns-in_err-flush_if_many-clause-err : goal.returns-in_err-flush_if_many-clause-err
@@ -20,5 +21,6 @@ returns-in_err-flush_if_many-clause-err g c =
     on_err c.from_residual-in_err-flush_if_many.result _ (
       q.0,
       some c.recover.new.self.committed c.in_ok-end.end q.1,
-      subst (λ (xs : List ℤ). WritesFront (prints_bytes xs) (g.K.Sink.written c.args.sink.now) (g.K.Sink.written c.flush_if_many.new.sink)) q.2 c.in_err-flush_if_many.ensures.streams,
+      subst (λ (xs : List ℤ). WritesFront (prints_bytes xs) (g.K.Sink.written c.args.sink.now) (g.K.Sink.written c.flush_if_many.new.sink)) q.2
+          c.in_err-flush_if_many.ensures.streams,
     )

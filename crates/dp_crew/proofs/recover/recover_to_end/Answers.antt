@@ -33,59 +33,89 @@ calls-preserved g c =
 
 pub calls-smaller : goal.calls-smaller
 calls-smaller g c =
-    let s = c.in_ok-go_on.ensures.ok in remade_falls _ _ s.0 (subst (λ (end : IterEnd). Remade c.calls.ledger.committed c.go_on.new.ledger.committed s.0 end) c.in-Going.is s.1)
+    let s = c.in_ok-go_on.ensures.ok in
+    remade_falls _ _ s.0 (subst (λ (end : IterEnd). Remade c.calls.ledger.committed c.go_on.new.ledger.committed s.0 end) c.in-Going.is s.1)
 
 pub returns-in-Next-clause-ok : goal.returns-in-Next-clause-ok
 returns-in-Next-clause-ok g c =
     let f = c.calls.invariant.so_far in
-    let s = c.in_ok-go_on.ensures.ok in
-    (f.0 ++ s.0, remade _ _ f.0 f.1 _ s.0 iter_end.Next (subst (λ (end : IterEnd). Remade c.calls.ledger.committed c.go_on.new.ledger.committed s.0 end) c.in-Next.is s.1), emits_both _ f.0 _ s.0 _ _ f.2 _ _ s.2)
+    let s = c.in_ok-go_on.ensures.ok in (
+      f.0 ++ s.0,
+      remade _ _ f.0 f.1 _ s.0 iter_end.Next (subst (λ (end : IterEnd). Remade c.calls.ledger.committed c.go_on.new.ledger.committed s.0 end)
+          c.in-Next.is s.1),
+      emits_both _ f.0 _ s.0 _ _ f.2 _ _ s.2,
+    )
 
 pub returns-in-Closed-clause-ok : goal.returns-in-Closed-clause-ok
 returns-in-Closed-clause-ok g c =
     let f = c.calls.invariant.so_far in
-    let s = c.in_ok-go_on.ensures.ok in
-    (f.0 ++ s.0, remade _ _ f.0 f.1 _ s.0 iter_end.Closed (subst (λ (end : IterEnd). Remade c.calls.ledger.committed c.go_on.new.ledger.committed s.0 end) c.in-Closed.is s.1), emits_both _ f.0 _ s.0 _ _ f.2 _ _ s.2)
+    let s = c.in_ok-go_on.ensures.ok in (
+      f.0 ++ s.0,
+      remade _ _ f.0 f.1 _ s.0 iter_end.Closed (subst (λ (end : IterEnd). Remade c.calls.ledger.committed c.go_on.new.ledger.committed s.0 end)
+          c.in-Closed.is s.1),
+      emits_both _ f.0 _ s.0 _ _ f.2 _ _ s.2,
+    )
 
 pub returns-in-Fault-clause-ok : goal.returns-in-Fault-clause-ok
 returns-in-Fault-clause-ok g c =
     let f = c.calls.invariant.so_far in
-    let s = c.in_ok-go_on.ensures.ok in
-    (f.0 ++ s.0, remade _ _ f.0 f.1 _ s.0 (iter_end.Fault c.in-Fault.fault) (subst (λ (end : IterEnd). Remade c.calls.ledger.committed c.go_on.new.ledger.committed s.0 end) c.in-Fault.is s.1), emits_both _ f.0 _ s.0 _ _ f.2 _ _ s.2)
+    let s = c.in_ok-go_on.ensures.ok in (
+      f.0 ++ s.0,
+      remade _ _ f.0 f.1 _ s.0 (iter_end.Fault c.in-Fault.fault) (subst
+          (λ (end : IterEnd). Remade c.calls.ledger.committed c.go_on.new.ledger.committed s.0 end) c.in-Fault.is s.1),
+      emits_both _ f.0 _ s.0 _ _ f.2 _ _ s.2,
+    )
 
 pub returns-in-Fuel-clause-ok : goal.returns-in-Fuel-clause-ok
 returns-in-Fuel-clause-ok g c =
     let f = c.calls.invariant.so_far in
-    let s = c.in_ok-go_on.ensures.ok in
-    (f.0 ++ s.0, remade _ _ f.0 f.1 _ s.0 iter_end.Fuel (subst (λ (end : IterEnd). Remade c.calls.ledger.committed c.go_on.new.ledger.committed s.0 end) c.in-Fuel.is s.1), emits_both _ f.0 _ s.0 _ _ f.2 _ _ s.2)
+    let s = c.in_ok-go_on.ensures.ok in (
+      f.0 ++ s.0,
+      remade _ _ f.0 f.1 _ s.0 iter_end.Fuel (subst (λ (end : IterEnd). Remade c.calls.ledger.committed c.go_on.new.ledger.committed s.0 end)
+          c.in-Fuel.is s.1),
+      emits_both _ f.0 _ s.0 _ _ f.2 _ _ s.2,
+    )
 
 pub returns-in-Next-clause-account : goal.returns-in-Next-clause-account
-returns-in-Next-clause-account g c = kept_both c.args.ledger.now.account c.calls.ledger.account c.go_on.new.ledger.account c.calls.invariant.account c.in_ok-go_on.ensures.account
+returns-in-Next-clause-account g c =
+    kept_both c.args.ledger.now.account c.calls.ledger.account c.go_on.new.ledger.account c.calls.invariant.account c.in_ok-go_on.ensures.account
 
 pub returns-in-Next-clause-heard : goal.returns-in-Next-clause-heard
-returns-in-Next-clause-heard g c = hears_on_join _ _ _ _ _ _ (remade_more _ _ _ _ c.in_ok-go_on.ensures.ok.1) c.calls.invariant.heard c.in_ok-go_on.ensures.heard
+returns-in-Next-clause-heard g c =
+    hears_on_join _ _ _ _ _ _ (remade_more _ _ _ _ c.in_ok-go_on.ensures.ok.1) c.calls.invariant.heard c.in_ok-go_on.ensures.heard
 
 pub returns-in-Closed-clause-account : goal.returns-in-Closed-clause-account
-returns-in-Closed-clause-account g c = kept_both c.args.ledger.now.account c.calls.ledger.account c.go_on.new.ledger.account c.calls.invariant.account c.in_ok-go_on.ensures.account
+returns-in-Closed-clause-account g c =
+    kept_both c.args.ledger.now.account c.calls.ledger.account c.go_on.new.ledger.account c.calls.invariant.account c.in_ok-go_on.ensures.account
 
 pub returns-in-Closed-clause-heard : goal.returns-in-Closed-clause-heard
-returns-in-Closed-clause-heard g c = hears_on_join _ _ _ _ _ _ (remade_more _ _ _ _ c.in_ok-go_on.ensures.ok.1) c.calls.invariant.heard c.in_ok-go_on.ensures.heard
+returns-in-Closed-clause-heard g c =
+    hears_on_join _ _ _ _ _ _ (remade_more _ _ _ _ c.in_ok-go_on.ensures.ok.1) c.calls.invariant.heard c.in_ok-go_on.ensures.heard
 
 pub returns-in-Fault-clause-account : goal.returns-in-Fault-clause-account
-returns-in-Fault-clause-account g c = kept_both c.args.ledger.now.account c.calls.ledger.account c.go_on.new.ledger.account c.calls.invariant.account c.in_ok-go_on.ensures.account
+returns-in-Fault-clause-account g c =
+    kept_both c.args.ledger.now.account c.calls.ledger.account c.go_on.new.ledger.account c.calls.invariant.account c.in_ok-go_on.ensures.account
 
 pub returns-in-Fault-clause-heard : goal.returns-in-Fault-clause-heard
-returns-in-Fault-clause-heard g c = hears_on_join _ _ _ _ _ _ (remade_more _ _ _ _ c.in_ok-go_on.ensures.ok.1) c.calls.invariant.heard c.in_ok-go_on.ensures.heard
+returns-in-Fault-clause-heard g c =
+    hears_on_join _ _ _ _ _ _ (remade_more _ _ _ _ c.in_ok-go_on.ensures.ok.1) c.calls.invariant.heard c.in_ok-go_on.ensures.heard
 
 pub returns-in-Fuel-clause-account : goal.returns-in-Fuel-clause-account
-returns-in-Fuel-clause-account g c = kept_both c.args.ledger.now.account c.calls.ledger.account c.go_on.new.ledger.account c.calls.invariant.account c.in_ok-go_on.ensures.account
+returns-in-Fuel-clause-account g c =
+    kept_both c.args.ledger.now.account c.calls.ledger.account c.go_on.new.ledger.account c.calls.invariant.account c.in_ok-go_on.ensures.account
 
 pub returns-in-Fuel-clause-heard : goal.returns-in-Fuel-clause-heard
-returns-in-Fuel-clause-heard g c = hears_on_join _ _ _ _ _ _ (remade_more _ _ _ _ c.in_ok-go_on.ensures.ok.1) c.calls.invariant.heard c.in_ok-go_on.ensures.heard
+returns-in-Fuel-clause-heard g c =
+    hears_on_join _ _ _ _ _ _ (remade_more _ _ _ _ c.in_ok-go_on.ensures.ok.1) c.calls.invariant.heard c.in_ok-go_on.ensures.heard
 
 pub calls-init : goal.calls-init
 calls-init g c = record {
-  so_far = ([], record { now_at = c.requires.next; made = inl (refl, refl) }, subst (λ (xs : List ℤ). Emits xs c.args.ledger.now.waiting (g.K.Sink.written c.args.sink.now) (g.K.Sink.written c.args.sink.now)) (sym (append-nil c.args.ledger.now.waiting)) (emits_nothing _ _));
+  so_far = (
+    [],
+    record { now_at = c.requires.next; made = inl (refl, refl) },
+    subst (λ (xs : List ℤ). Emits xs c.args.ledger.now.waiting
+        (g.K.Sink.written c.args.sink.now) (g.K.Sink.written c.args.sink.now)) (sym (append-nil c.args.ledger.now.waiting)) (emits_nothing _ _),
+  );
   account = refl;
   heard = hears_on_none c.args.ledger.now.committed.machine c.args.ledger.now.account.views;
   faults = refl;

@@ -11,13 +11,16 @@ pub put_nodes-loop-statement-preserved : goal.put_nodes-loop-statement-preserved
 put_nodes-loop-statement-preserved t c =
     let all = c.args.all.now in let i = c.loop-statement.statement-index in let around = c.args.inside.around.now in let outer = c.args.inside.outer_loop in
     let below : c.loop-statement.statement-index < length c.args.all.now = omega arith in
-    joins_more (c.args.out.now ++ node_lists around outer all) c.loop-statement.out c.put_nodes_of.new.out (node_lists around outer (drop i all)) (node_list around outer c.statement-item.result) (node_lists around outer (drop (i + 1) all))
+    joins_more (c.args.out.now ++ node_lists around outer all) c.loop-statement.out c.put_nodes_of.new.out (node_lists around outer (drop i all))
+    (node_list around outer c.statement-item.result) (node_lists around outer (drop (i + 1) all))
     c.loop-statement.invariant (nodes-next around outer all i c.statement-item.result below c.statement-item.is) c.in_ok-put_nodes_of.ensures
 
 pub put_nodes-returns : goal.put_nodes-returns
 put_nodes-returns t c =
-    joins_all (c.args.out.now ++ node_lists c.args.inside.around.now c.args.inside.outer_loop c.args.all.now) c.loop-statement.out (node_lists c.args.inside.around.now c.args.inside.outer_loop (drop c.loop-statement.statement-index c.args.all.now)) c.loop-statement.invariant
-    (at_drop_all (node_lists c.args.inside.around.now c.args.inside.outer_loop) c.args.all.now c.loop-statement.statement-index (omega arith) ∙ nodes-none c.args.inside.around.now c.args.inside.outer_loop)
+    joins_all (c.args.out.now ++ node_lists c.args.inside.around.now c.args.inside.outer_loop c.args.all.now) c.loop-statement.out
+    (node_lists c.args.inside.around.now c.args.inside.outer_loop (drop c.loop-statement.statement-index c.args.all.now)) c.loop-statement.invariant
+    (at_drop_all (node_lists c.args.inside.around.now c.args.inside.outer_loop) c.args.all.now c.loop-statement.statement-index (omega arith)
+    ∙ nodes-none c.args.inside.around.now c.args.inside.outer_loop)
 
 pub put_nodes_of-returns-in_ok-put_part-in-If-2 : goal.put_nodes_of-returns-in_ok-put_part-in-If-2
 put_nodes_of-returns-in_ok-put_part-in-If-2 t c =
@@ -32,9 +35,12 @@ pub put_nodes_of-returns-in-While : goal.put_nodes_of-returns-in-While
 put_nodes_of-returns-in-While t c =
     let w = c.in-While in let around = c.args.inside.around.now in let outer = c.args.inside.outer_loop in
     subst (λ (l : List Node). OnOk c.put_loop.result (c.put_loop.new.out ≡ c.args.out.now ++ l))
-    (ap (λ (a : List ℕ). plain_node a c.in_loop.result.outer_loop w.site (load_list w.cond) None ∷ node_lists (a ++ w.site.0 ∷ []) c.in_loop.result.outer_loop c.as_slice-in-While.result.now) c.in_loop.ensures.around
-    ∙ ap (λ (o : Option ℕ). plain_node around o w.site (load_list w.cond) None ∷ node_lists (around ++ w.site.0 ∷ []) o c.as_slice-in-While.result.now) c.in_loop.ensures.outer_loop
-    ∙ ap (λ (l : List Stmt). plain_node around (Some (loop_of outer w.site.0)) w.site (load_list w.cond) None ∷ node_lists (around ++ w.site.0 ∷ []) (Some (loop_of outer w.site.0)) l) c.as_slice-in-While.ensures
+    (ap (λ (a : List ℕ). plain_node a c.in_loop.result.outer_loop w.site (load_list w.cond) None ∷ node_lists (a ++ w.site.0 ∷ []) c.in_loop.result.outer_loop
+    c.as_slice-in-While.result.now) c.in_loop.ensures.around
+    ∙ ap (λ (o : Option ℕ). plain_node around o w.site (load_list w.cond) None ∷ node_lists (around ++ w.site.0 ∷ []) o c.as_slice-in-While.result.now)
+    c.in_loop.ensures.outer_loop
+    ∙ ap (λ (l : List Stmt). plain_node around (Some (loop_of outer w.site.0)) w.site (load_list w.cond) None ∷ node_lists (around ++ w.site.0 ∷ [])
+    (Some (loop_of outer w.site.0)) l) c.as_slice-in-While.ensures
     ∙ sym (nodes-While around outer w.site w.cond w.body) ∙ ap (node_list around outer) (sym w.is))
     c.put_loop.ensures
 
@@ -49,5 +55,6 @@ put_nodes_of-returns-in-Region t c =
 pub put_loop-returns : goal.put_loop-returns
 put_loop-returns t c =
     let around = c.args.inside.around.now in let outer = c.args.inside.outer_loop in
-    item_and_one c.args.out.now _ _ (node_lists (around ++ c.args.site.0 ∷ []) outer c.args.body.now) (plain_node around outer c.args.site (load_list c.args.cond.now) None)
+    item_and_one c.args.out.now _ _ (node_lists (around ++ c.args.site.0 ∷ []) outer c.args.body.now)
+    (plain_node around outer c.args.site (load_list c.args.cond.now) None)
     c.in_ok-put_value.ensures c.in_ok-put_part.ensures

@@ -15,11 +15,13 @@ returns-in-Run-clause-carried g c words asks =
 
 pub returns-in-Refused-clause-carried : goal.returns-in-Refused-clause-carried
 returns-in-Refused-clause-carried g c words asks =
-    let texts = loaded _ _ _ _ _ _ _ _ (c.in_ok-program.was ∙ ap Ok c.in-Refused.is) c.load_texts.ensures.loads in carry_refused _ (ToRun (shown c.args.run)) _ (for_run (shown c.args.run)) _ asks _ _ _ _ _ _ _ _ texts c.refuse.ensures.finishes
+    let texts = loaded _ _ _ _ _ _ _ _ (c.in_ok-program.was ∙ ap Ok c.in-Refused.is) c.load_texts.ensures.loads in
+    carry_refused _ (ToRun (shown c.args.run)) _ (for_run (shown c.args.run)) _ asks _ _ _ _ _ _ _ _ texts c.refuse.ensures.finishes
 
 pub returns-in-Failed-clause-carried : goal.returns-in-Failed-clause-carried
 returns-in-Failed-clause-carried g c words asks =
-    let texts = loaded _ _ _ _ _ _ _ _ (c.in_ok-program.was ∙ ap Ok c.in-Failed.is) c.load_texts.ensures.loads in carry_failed _ (ToRun (shown c.args.run)) _ (for_run (shown c.args.run)) _ asks _ _ _ _ _ _ _ _ texts c.fail_read.ensures.finishes
+    let texts = loaded _ _ _ _ _ _ _ _ (c.in_ok-program.was ∙ ap Ok c.in-Failed.is) c.load_texts.ensures.loads in
+    carry_failed _ (ToRun (shown c.args.run)) _ (for_run (shown c.args.run)) _ asks _ _ _ _ _ _ _ _ texts c.fail_read.ensures.finishes
 
 pub returns-in-Run-clause-counted : goal.returns-in-Run-clause-counted
 returns-in-Run-clause-counted g c words asks =
@@ -33,7 +35,9 @@ pub returns-in-Failed-clause-counted : goal.returns-in-Failed-clause-counted
 returns-in-Failed-clause-counted g c words asks = failed_counts _ _ _ _ _ _ _ _ c.fail_read.ensures.finishes
 
 pub run_to_end-requires-clause-given : goal.run_to_end-requires-clause-given
-run_to_end-requires-clause-given g c κs within = given _ _ _ _ _ _ _ _ _ (loaded _ _ _ _ _ _ _ _ (c.in_ok-program.was ∙ ap Ok c.in-Run.is) c.load_texts.ensures.loads)
+run_to_end-requires-clause-given g c κs within =
+    given _ _ _ _ _ _ _ _ _ (loaded _ _ _ _ _ _ _ _ (c.in_ok-program.was ∙ ap Ok c.in-Run.is) c.load_texts.ensures.loads)
 
 pub run_to_end-requires-clause-words : goal.run_to_end-requires-clause-words
-run_to_end-requires-clause-words g c κs within = words_given _ _ _ _ _ _ _ _ _ (loaded _ _ _ _ _ _ _ _ (c.in_ok-program.was ∙ ap Ok c.in-Run.is) c.load_texts.ensures.loads)
+run_to_end-requires-clause-words g c κs within =
+    words_given _ _ _ _ _ _ _ _ _ (loaded _ _ _ _ _ _ _ _ (c.in_ok-program.was ∙ ap Ok c.in-Run.is) c.load_texts.ensures.loads)

@@ -15,12 +15,15 @@ returns-in-Run-clause-carried g c words asks =
 pub returns-in-Refused-clause-carried : goal.returns-in-Refused-clause-carried
 returns-in-Refused-clause-carried g c words asks =
     let texts = loaded _ _ _ _ _ _ _ _ (c.in_ok-program.was ∙ ap Ok c.in-Refused.is) c.load_texts.ensures.loads in
-    carry_refused _ (ToAudit (shown c.args.run) c.args.log.now) _ (for_audit (shown c.args.run) c.args.log.now) _ asks _ _ _ _ _ _ _ _ texts c.refuse.ensures.finishes
+    carry_refused _ (ToAudit (shown c.args.run) c.args.log.now) _ (for_audit (shown c.args.run) c.args.log.now) _ asks _ _ _ _ _ _ _ _ texts
+    c.refuse.ensures.finishes
 
 pub returns-in-Failed-clause-carried : goal.returns-in-Failed-clause-carried
 returns-in-Failed-clause-carried g c words asks =
     let texts = loaded _ _ _ _ _ _ _ _ (c.in_ok-program.was ∙ ap Ok c.in-Failed.is) c.load_texts.ensures.loads in
-    carry_failed _ (ToAudit (shown c.args.run) c.args.log.now) _ (for_audit (shown c.args.run) c.args.log.now) _ asks _ _ _ _ _ _ _ _ texts c.fail_read.ensures.finishes
+    carry_failed _ (ToAudit (shown c.args.run) c.args.log.now) _ (for_audit (shown c.args.run) c.args.log.now) _ asks _ _ _ _ _ _ _ _ texts
+    c.fail_read.ensures.finishes
 
 pub answer_log_text-requires-clause-may : goal.answer_log_text-requires-clause-may
-answer_log_text-requires-clause-may g c = may_run _ _ _ _ _ _ _ _ _ c.requires.run (loaded _ _ _ _ _ _ _ _ (c.in_ok-program.was ∙ ap Ok c.in-Run.is) c.load_texts.ensures.loads)
+answer_log_text-requires-clause-may g c =
+    may_run _ _ _ _ _ _ _ _ _ c.requires.run (loaded _ _ _ _ _ _ _ _ (c.in_ok-program.was ∙ ap Ok c.in-Run.is) c.load_texts.ensures.loads)

@@ -19,7 +19,9 @@ returns-in-Failed-clause-carried g c words asks =
     carry_failed _ _ _ _ _ _ _ _ (shown c.args.run) _ asks _ _ texts c.fail_read.ensures.finishes
 
 pub run_each-requires-clause-given : goal.run_each-requires-clause-given
-run_each-requires-clause-given g c κs within = given _ _ _ _ _ _ _ _ _ _ (loaded _ _ _ _ _ _ _ _ _ (c.in_ok-program.was ∙ ap Ok c.in-Run.is) c.load_batch.ensures.loads)
+run_each-requires-clause-given g c κs within =
+    given _ _ _ _ _ _ _ _ _ _ (loaded _ _ _ _ _ _ _ _ _ (c.in_ok-program.was ∙ ap Ok c.in-Run.is) c.load_batch.ensures.loads)
 
 pub run_each-requires-clause-words : goal.run_each-requires-clause-words
-run_each-requires-clause-words g c κs within = few _ _ _ _ _ _ _ _ _ _ (loaded _ _ _ _ _ _ _ _ _ (c.in_ok-program.was ∙ ap Ok c.in-Run.is) c.load_batch.ensures.loads)
+run_each-requires-clause-words g c κs within =
+    few _ _ _ _ _ _ _ _ _ _ (loaded _ _ _ _ _ _ _ _ _ (c.in_ok-program.was ∙ ap Ok c.in-Run.is) c.load_batch.ensures.loads)

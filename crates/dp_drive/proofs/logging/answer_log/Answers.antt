@@ -22,4 +22,5 @@ returns-in-Failed-clause-carried g c words asks =
     carry_failed _ (ToLog (shown c.args.run)) _ (for_log (shown c.args.run)) _ asks _ _ _ _ _ _ _ _ texts c.fail_read.ensures.finishes
 
 pub write_log-requires-clause-may : goal.write_log-requires-clause-may
-write_log-requires-clause-may g c = may_run _ _ _ _ _ _ _ _ _ c.requires.run (loaded _ _ _ _ _ _ _ _ (c.in_ok-program.was ∙ ap Ok c.in-Run.is) c.load_texts.ensures.loads)
+write_log-requires-clause-may g c =
+    may_run _ _ _ _ _ _ _ _ _ c.requires.run (loaded _ _ _ _ _ _ _ _ (c.in_ok-program.was ∙ ap Ok c.in-Run.is) c.load_texts.ensures.loads)

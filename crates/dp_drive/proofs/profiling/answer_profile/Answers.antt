@@ -7,17 +7,23 @@ use Rattle.dp_load.proofs.accepted.Given.{loaded_inlined}
 use Rattle.dp_drive.proofs.profiling.answer_profile.Goals as goal
 
 pub answer_input-requires-clause-inlined : goal.answer_input-requires-clause-inlined
-answer_input-requires-clause-inlined g c = loaded_inlined _ _ _ (given _ _ _ (c.in_ok-program.was ∙ ap Ok c.in-Text.is) (program_gives _ _ _ _ _ _ _ c.load_program.ensures.loads c.load_program.ensures.faults c.load_program.ensures.failed_names)).0
+answer_input-requires-clause-inlined g c =
+    loaded_inlined _ _ _ (given _ _ _ (c.in_ok-program.was ∙ ap Ok c.in-Text.is) (program_gives _ _ _ _ _ _ _ c.load_program.ensures.loads
+    c.load_program.ensures.faults c.load_program.ensures.failed_names)).0
 
 pub returns-in-Text-clause-carried : goal.returns-in-Text-clause-carried
 returns-in-Text-clause-carried g c words asks =
-    let read = (given _ _ _ (c.in_ok-program.was ∙ ap Ok c.in-Text.is) (program_gives _ _ _ _ _ _ _ c.load_program.ensures.loads c.load_program.ensures.faults c.load_program.ensures.failed_names)) in
+    let read = (given _ _ _ (c.in_ok-program.was ∙ ap Ok c.in-Text.is) (program_gives _ _ _ _ _ _ _ c.load_program.ensures.loads c.load_program.ensures.faults
+    c.load_program.ensures.failed_names)) in
     carry_on _ _ _ _ _ _ _ _ _ _ _ read.1 read.2 ((rw c.load_program.ensures.contents at c.answer_input.ensures.carried) words asks read.0)
 
 pub returns-in-Refused-clause-carried : goal.returns-in-Refused-clause-carried
 returns-in-Refused-clause-carried g c words asks =
-    carry_program_refused _ _ _ _ _ _ _ _ (ToProfile (shown_profiling c.args.profile)) _ _ _ asks refl (given _ _ _ (c.in_ok-program.was ∙ ap Ok c.in-Refused.is) (program_gives _ _ _ _ _ _ _ c.load_program.ensures.loads c.load_program.ensures.faults c.load_program.ensures.failed_names)) c.refuse.ensures.finishes
+    carry_program_refused _ _ _ _ _ _ _ _ (ToProfile (shown_profiling c.args.profile)) _ _ _ asks refl
+    (given _ _ _ (c.in_ok-program.was ∙ ap Ok c.in-Refused.is) (program_gives _ _ _ _ _ _ _ c.load_program.ensures.loads c.load_program.ensures.faults
+    c.load_program.ensures.failed_names)) c.refuse.ensures.finishes
 
 pub returns-in-Failed-clause-carried : goal.returns-in-Failed-clause-carried
 returns-in-Failed-clause-carried g c words asks =
-    carry_program_failed _ _ _ _ _ _ _ _ (ToProfile (shown_profiling c.args.profile)) _ _ asks refl (given _ _ _ (c.in_ok-program.was ∙ ap Ok c.in-Failed.is) (program_gives _ _ _ _ _ _ _ c.load_program.ensures.loads c.load_program.ensures.faults c.load_program.ensures.failed_names)) c.fail_read.ensures.finishes
+    carry_program_failed _ _ _ _ _ _ _ _ (ToProfile (shown_profiling c.args.profile)) _ _ asks refl (given _ _ _ (c.in_ok-program.was ∙ ap Ok c.in-Failed.is)
+    (program_gives _ _ _ _ _ _ _ c.load_program.ensures.loads c.load_program.ensures.faults c.load_program.ensures.failed_names)) c.fail_read.ensures.finishes

@@ -15,15 +15,19 @@ returns-in-Run-clause-carried g c words asks =
 pub returns-in-Refused-clause-carried : goal.returns-in-Refused-clause-carried
 returns-in-Refused-clause-carried g c words asks =
     let texts = loaded _ _ _ _ _ _ _ _ (c.in_ok-program.was ∙ ap Ok c.in-Refused.is) c.load_texts.ensures.loads in
-    carry_refused _ (ToResume (shown c.args.run) c.args.checkpoint.now) _ (for_resume (shown c.args.run) c.args.checkpoint.now) _ asks _ _ _ _ _ _ _ _ texts c.refuse.ensures.finishes
+    carry_refused _ (ToResume (shown c.args.run) c.args.checkpoint.now) _ (for_resume (shown c.args.run) c.args.checkpoint.now) _ asks _ _ _ _ _ _ _ _ texts
+    c.refuse.ensures.finishes
 
 pub returns-in-Failed-clause-carried : goal.returns-in-Failed-clause-carried
 returns-in-Failed-clause-carried g c words asks =
     let texts = loaded _ _ _ _ _ _ _ _ (c.in_ok-program.was ∙ ap Ok c.in-Failed.is) c.load_texts.ensures.loads in
-    carry_failed _ (ToResume (shown c.args.run) c.args.checkpoint.now) _ (for_resume (shown c.args.run) c.args.checkpoint.now) _ asks _ _ _ _ _ _ _ _ texts c.fail_read.ensures.finishes
+    carry_failed _ (ToResume (shown c.args.run) c.args.checkpoint.now) _ (for_resume (shown c.args.run) c.args.checkpoint.now) _ asks _ _ _ _ _ _ _ _ texts
+    c.fail_read.ensures.finishes
 
 pub answer_checkpoint-requires-clause-may : goal.answer_checkpoint-requires-clause-may
-answer_checkpoint-requires-clause-may g c κs within = may_run _ _ _ _ _ _ _ _ _ c.requires.run (loaded _ _ _ _ _ _ _ _ (c.in_ok-program.was ∙ ap Ok c.in-Run.is) c.load_texts.ensures.loads)
+answer_checkpoint-requires-clause-may g c κs within =
+    may_run _ _ _ _ _ _ _ _ _ c.requires.run (loaded _ _ _ _ _ _ _ _ (c.in_ok-program.was ∙ ap Ok c.in-Run.is) c.load_texts.ensures.loads)
 
 pub answer_checkpoint-requires-clause-shelf : goal.answer_checkpoint-requires-clause-shelf
-answer_checkpoint-requires-clause-shelf g c κs within = rw (same_faults (loaded _ _ _ _ _ _ _ _ (c.in_ok-program.was ∙ ap Ok c.in-Run.is) c.load_texts.ensures.loads)) c.requires.shelf
+answer_checkpoint-requires-clause-shelf g c κs within =
+    rw (same_faults (loaded _ _ _ _ _ _ _ _ (c.in_ok-program.was ∙ ap Ok c.in-Run.is) c.load_texts.ensures.loads)) c.requires.shelf

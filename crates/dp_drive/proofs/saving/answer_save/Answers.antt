@@ -19,7 +19,9 @@ returns-in-Refused-clause-carried g c words asks =
 pub returns-in-Failed-clause-carried : goal.returns-in-Failed-clause-carried
 returns-in-Failed-clause-carried g c words asks =
     let texts = loaded _ _ _ _ _ _ _ _ (c.in_ok-program.was ∙ ap Ok c.in-Failed.is) c.load_texts.ensures.loads in
-    carry_failed _ (ToSave (shown c.args.run) c.args.place) _ (for_save (shown c.args.run) c.args.place) _ asks _ _ _ _ _ _ _ _ texts c.fail_read.ensures.finishes
+    carry_failed _ (ToSave (shown c.args.run) c.args.place) _ (for_save (shown c.args.run) c.args.place) _ asks _ _ _ _ _ _ _ _ texts
+    c.fail_read.ensures.finishes
 
 pub save_at-requires-clause-may : goal.save_at-requires-clause-may
-save_at-requires-clause-may g c κs within = may_run _ _ _ _ _ _ _ _ _ c.requires.run (loaded _ _ _ _ _ _ _ _ (c.in_ok-program.was ∙ ap Ok c.in-Run.is) c.load_texts.ensures.loads)
+save_at-requires-clause-may g c κs within =
+    may_run _ _ _ _ _ _ _ _ _ c.requires.run (loaded _ _ _ _ _ _ _ _ (c.in_ok-program.was ∙ ap Ok c.in-Run.is) c.load_texts.ensures.loads)

@@ -1,11 +1,11 @@
 use Rattle.std.proofs.Common.{◌≡◌, [], rules}
-use Rattle.dp_edge.specs.Input.{words}
+use Rattle.dp_edge.specs.Input.{input_words}
 use Rattle.dp_edge.proofs.Words.{words_none, next_word_is, NextWord}
 use Rattle.dp_edge.proofs.input.next_word.Goals as goal
 
 pub returns-in_err-first_word-clause-words : goal.returns-in_err-first_word-clause-words
 returns-in_err-first_word-clause-words c =
-    let none : words c.args.text.now ≡ [] = words_none c.args.text.now (search rules) in
+    let none : input_words c.args.text.now ≡ [] = words_none c.args.text.now (search rules) in
     search rules
 
 pub returns-clause-words : goal.returns-clause-words

@@ -5,9 +5,9 @@ use Rattle.dp_semantics.specs.Recovery.{is_recovered}
 use Rattle.dp_commit.specs.CommittedState.{region_run}
 use Rattle.dp_epoch.specs.declared.account.Account.{Account}
 use Rattle.dp_epoch.specs.declared.ledger.Ledger.{Ledger}
-use Rattle.dp_epoch.specs.Applied.{left_of}
+use Rattle.dp_epoch.specs.Applied.{steps_left}
 use Rattle.dp_epoch.specs.InEpoch.{AfterRecovery, left_by_recovery}
-use Rattle.dp_epoch.specs.Prints.{to_come}
+use Rattle.dp_epoch.specs.Prints.{prints_to_come}
 use Rattle.dp_epoch.specs.Remade.{Remade, iteration_end}
 use Rattle.dp_epoch.proofs.Counting.{again_few, told_count}
 use Rattle.dp_epoch.proofs.Recovering.{CountedRecovered, counts_begun, counts_unbegun, recovered, recovered_left}
@@ -32,28 +32,33 @@ returns-in_ok-count_again-clause-ok g c plan first u =
     let begun : c.steps.result < c.fuel.result = search rules in
     let steps = c.steps.ensures.value in
     let fuel = c.fuel.ensures in
-    let counted : CountedRecovered c.args.ledger.now.committed c.args.ledger.now.account c.count_again.new.self.account c.execute.new.ledger.account.views c.in_ok-end.end =
+    let counted : CountedRecovered c.args.ledger.now.committed c.args.ledger.now.account c.count_again.new.self.account
+    c.execute.new.ledger.account.views c.in_ok-end.end =
     counts_begun _ _ _ _ _ _ c.count-number.ensures.value s.account c.in_ok-count_again.ensures.ok (omega (arith, begun, steps, fuel)) in
     subst (λ (x : Ledger). AfterRecovery plan first x.committed c.count_again.new.self.account c.in_ok-end.end) (sym c.in_ok-count_again.ensures.rest)
-    (recovered plan first c.args.ledger.now.committed c.args.ledger.now.account u.progress u.again c.count_again.new.self.account c.execute.new.ledger.account.views c.execute.new.ledger.committed s.ok.0 c.in_ok-end.end s.ok.1 s.heard counted)
+    (recovered plan first c.args.ledger.now.committed c.args.ledger.now.account u.progress u.again c.count_again.new.self.account
+    c.execute.new.ledger.account.views c.execute.new.ledger.committed s.ok.0 c.in_ok-end.end s.ok.1 s.heard counted)
 
 pub returns-in_ok-count_again-clause-prints : goal.returns-in_ok-count_again-clause-prints
 returns-in_ok-count_again-clause-prints g c =
     let s = c.in_ok-end.ensures.ok in
-    subst (λ (x : Ledger). (printed : List ℤ) × Remade c.args.ledger.now.committed x.committed printed (iteration_end c.in_ok-end.end) × (x.waiting ≡ c.args.ledger.now.waiting ++ printed)) (sym c.in_ok-count_again.ensures.rest)
+    subst (λ (x : Ledger). (printed : List ℤ) × Remade c.args.ledger.now.committed x.committed printed (iteration_end c.in_ok-end.end)
+    × (x.waiting ≡ c.args.ledger.now.waiting ++ printed)) (sym c.in_ok-count_again.ensures.rest)
     (s.0, s.1, s.2)
 
 pub returns-in_ok-count_again-clause-ahead : goal.returns-in_ok-count_again-clause-ahead
 returns-in_ok-count_again-clause-ahead g c plan first u =
     let s = c.in_ok-end.ensures.ok in
-    subst (λ (x : Ledger). to_come plan first c.args.ledger.now.waiting c.args.ledger.now.committed.count ≡ left_by_recovery plan first x.waiting x.committed.count c.in_ok-end.end) (sym c.in_ok-count_again.ensures.rest)
-    (recovered_ahead plan first c.args.ledger.now.committed c.args.ledger.now.account u.progress c.args.ledger.now.waiting s.0 c.execute.new.ledger.committed c.in_ok-end.end s.1 c.execute.new.ledger.waiting s.2)
+    subst (λ (x : Ledger). prints_to_come plan first c.args.ledger.now.waiting c.args.ledger.now.committed.count ≡ left_by_recovery plan first x.waiting
+    x.committed.count c.in_ok-end.end) (sym c.in_ok-count_again.ensures.rest)
+    (recovered_ahead plan first c.args.ledger.now.committed c.args.ledger.now.account u.progress c.args.ledger.now.waiting s.0 c.execute.new.ledger.committed
+    c.in_ok-end.end s.1 c.execute.new.ledger.waiting s.2)
 
 pub returns-in_ok-count_again-clause-left : goal.returns-in_ok-count_again-clause-left
 returns-in_ok-count_again-clause-left g c none =
     let u = c.requires.unclean in
     let s = c.in_ok-end.ensures.ok in
-    subst (λ (x : Ledger). left_of x.committed < left_of c.args.ledger.now.committed) (sym c.in_ok-count_again.ensures.rest)
+    subst (λ (x : Ledger). steps_left x.committed < steps_left c.args.ledger.now.committed) (sym c.in_ok-count_again.ensures.rest)
     (recovered_left u.0 u.1 c.args.ledger.now.committed c.args.ledger.now.account u.2.progress c.execute.new.ledger.committed s.0 c.in_ok-end.end s.1 none)
 
 pub returns-in_ok-count_again-clause-why : goal.returns-in_ok-count_again-clause-why
@@ -65,14 +70,17 @@ returns-else-begun-clause-ok g c plan first u =
     let unbegun : c.fuel.result ≤ c.steps.result = search rules in
     let steps = c.steps.ensures.value in
     let fuel = c.fuel.ensures in
-    let counted : CountedRecovered c.args.ledger.now.committed c.args.ledger.now.account c.execute.new.ledger.account c.execute.new.ledger.account.views c.in_ok-end.end =
+    let counted : CountedRecovered c.args.ledger.now.committed c.args.ledger.now.account c.execute.new.ledger.account
+    c.execute.new.ledger.account.views c.in_ok-end.end =
     counts_unbegun _ _ _ _ s.account (omega (arith, unbegun, steps, fuel)) in
-    recovered plan first c.args.ledger.now.committed c.args.ledger.now.account u.progress u.again c.execute.new.ledger.account c.execute.new.ledger.account.views c.execute.new.ledger.committed s.ok.0 c.in_ok-end.end s.ok.1 s.heard counted
+    recovered plan first c.args.ledger.now.committed c.args.ledger.now.account u.progress u.again c.execute.new.ledger.account
+    c.execute.new.ledger.account.views c.execute.new.ledger.committed s.ok.0 c.in_ok-end.end s.ok.1 s.heard counted
 
 pub returns-else-begun-clause-ahead : goal.returns-else-begun-clause-ahead
 returns-else-begun-clause-ahead g c plan first u =
     let s = c.in_ok-end.ensures.ok in
-    recovered_ahead plan first c.args.ledger.now.committed c.args.ledger.now.account u.progress c.args.ledger.now.waiting s.0 c.execute.new.ledger.committed c.in_ok-end.end s.1 c.execute.new.ledger.waiting s.2
+    recovered_ahead plan first c.args.ledger.now.committed c.args.ledger.now.account u.progress c.args.ledger.now.waiting s.0 c.execute.new.ledger.committed
+    c.in_ok-end.end s.1 c.execute.new.ledger.waiting s.2
 
 pub returns-else-begun-clause-left : goal.returns-else-begun-clause-left
 returns-else-begun-clause-left g c none =

@@ -39,11 +39,16 @@ returns-in_ok-commit-in-Clean-clause-followed g c =
     let one = done.tally in
     let counted = ap (λ (s : CommittedState). s.count) done.ok.rest in
     record {
-      stands = λ plan first f w. (let few : clean.steps ≤ plan.words = omega (arith, w, low, is) in followed_on plan _ _ first _ _ f clean gives going few c.commit.new.self.committed done.ok c.commit.new.self.account done.account);
-      prints = λ plan first f w. (let few : clean.steps ≤ plan.words = omega (arith, w, low, is) in followed_waits plan _ _ first _ _ f clean gives going few c.args.ledger.now.waiting c.commit.new.self.waiting done.waiting);
+      stands = λ plan first f w.
+          (let few : clean.steps ≤ plan.words = omega (arith, w, low, is) in
+          followed_on plan _ _ first _ _ f clean gives going few c.commit.new.self.committed done.ok c.commit.new.self.account done.account);
+      prints = λ plan first f w.
+          (let few : clean.steps ≤ plan.words = omega (arith, w, low, is) in
+          followed_waits plan _ _ first _ _ f clean gives going few c.args.ledger.now.waiting c.commit.new.self.waiting done.waiting);
       ahead = λ plan first f w.
           (let few : clean.steps ≤ plan.words = omega (arith, w, low, is) in
-          followed_ahead plan _ _ first _ _ f clean gives going few c.commit.new.self.committed done.ok c.args.ledger.now.waiting c.commit.new.self.waiting done.waiting);
+          followed_ahead plan _ _ first _ _ f clean gives going few c.commit.new.self.committed done.ok c.args.ledger.now.waiting
+          c.commit.new.self.waiting done.waiting);
       kept = λ e. absurd (cc e);
       report = ap (λ (a : Account). a.report) done.account.account;
       why = ap (λ (a : Account). a.why) done.account.account;

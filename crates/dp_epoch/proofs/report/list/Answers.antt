@@ -11,5 +11,6 @@ pub returns-clause-listed : goal.returns-clause-listed
 returns-clause-listed c why r n again f e w =
     let few : length c.args.report.now.recovered < 1000 = search rules in
     ap (λ (ks : List ℕ). record c.args.report.now { recovered = ks; causes = c.push_cause.new.causes }) c.in_ok-push.ensures.ok
-    ∙ ap (λ (cs : List Cause). record c.args.report.now { recovered = c.args.report.now.recovered ++ c.args.number ∷ []; causes = cs }) c.in_ok-push_cause.ensures
+    ∙ ap (λ (cs : List Cause). record c.args.report.now { recovered = c.args.report.now.recovered ++ c.args.number ∷ []; causes = cs })
+    c.in_ok-push_cause.ensures
     ∙ told_grows why r n again f c.args.report.now c.args.number c.args.cause e w few

@@ -33,7 +33,8 @@ returns-then-closing-clause-taken g c =
     record {
       stands = λ first e. epoch_closes _ _ first _ _ e clean gives c.commit.new.self.committed done.ok c.commit.new.self.account done.account closing;
       prints = λ first e. waits _ _ first _ _ e clean gives c.args.ledger.now.waiting c.commit.new.self.waiting done.waiting;
-      ahead = λ first e. closes_ahead _ _ first _ _ e clean gives c.commit.new.self.committed done.ok c.args.ledger.now.waiting c.commit.new.self.waiting done.waiting closing;
+      ahead = λ first e. closes_ahead _ _ first _ _ e clean gives c.commit.new.self.committed done.ok c.args.ledger.now.waiting c.commit.new.self.waiting
+          done.waiting closing;
       kept = λ e. absurd (cc e);
       report = ap (λ (a : Account). a.report) done.account.account;
       why = ap (λ (a : Account). a.why) done.account.account;
@@ -56,7 +57,8 @@ returns-else-closing-clause-taken g c =
     record {
       stands = λ first e. epoch_goes _ _ first _ _ e clean gives c.commit.new.self.committed done.ok c.commit.new.self.account done.account going;
       prints = λ first e. waits _ _ first _ _ e clean gives c.args.ledger.now.waiting c.commit.new.self.waiting done.waiting;
-      ahead = λ first e. goes_ahead _ _ first _ _ e clean gives c.commit.new.self.committed done.ok c.args.ledger.now.waiting c.commit.new.self.waiting done.waiting;
+      ahead = λ first e. goes_ahead _ _ first _ _ e clean gives c.commit.new.self.committed done.ok c.args.ledger.now.waiting
+          c.commit.new.self.waiting done.waiting;
       kept = λ e. absurd (cc e);
       report = ap (λ (a : Account). a.report) done.account.account;
       why = ap (λ (a : Account). a.why) done.account.account;

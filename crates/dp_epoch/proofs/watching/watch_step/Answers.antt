@@ -13,4 +13,5 @@ returns-clause-ok c =
     )
 
 pub returns-clause-heard : goal.returns-clause-heard
-returns-clause-heard c = hears_step c.args.committed.now.machine c.watch.new.self.machine c.in_ok-end.seen c.watch.new.loads.cells c.args.views.now c.see.new.views c.in_ok-end.ensures.told c.in_ok-see.ensures
+returns-clause-heard c = hears_step c.args.committed.now.machine c.watch.new.self.machine c.in_ok-end.seen c.watch.new.loads.cells c.args.views.now
+    c.see.new.views c.in_ok-end.ensures.told c.in_ok-see.ensures

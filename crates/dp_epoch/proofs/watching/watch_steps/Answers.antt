@@ -30,10 +30,12 @@ pub steps-preserved : goal.steps-preserved
 steps-preserved c =
     let f = c.steps.invariant.so_far in
     let q = c.in_ok-end.ensures.ok in
-    let s : Remade c.steps.committed c.watch_step.new.committed q.0 iter_end.Going = subst (λ (end : IterEnd). Remade c.steps.committed c.watch_step.new.committed q.0 end) c.in-Going.is q.1 in
+    let s : Remade c.steps.committed c.watch_step.new.committed q.0 iter_end.Going = subst
+    (λ (end : IterEnd). Remade c.steps.committed c.watch_step.new.committed q.0 end) c.in-Going.is q.1 in
     record {
       so_far = (f.0 ++ q.0, remade_going _ _ f.0 f.1 _ q.0 s, waits c.args.waiting.now f.0 c.steps.waiting q.0 c.watch_step.new.waiting f.2 q.2);
-      heard = hears_join c.args.committed.now.machine c.steps.committed.machine c.watch_step.new.committed.machine c.args.views.now c.steps.views c.watch_step.new.views
+      heard = hears_join c.args.committed.now.machine c.steps.committed.machine c.watch_step.new.committed.machine c.args.views.now c.steps.views
+          c.watch_step.new.views
           (remade_more _ _ _ _ q.1) c.steps.invariant.heard c.in_ok-end.ensures.heard;
       some = omega (arith, c.if-left-eq0.false);
     }
@@ -44,6 +46,7 @@ returns-in_default c =
     let q = c.in_ok-end.ensures.ok in
     record {
       ok = (f.0 ++ q.0, remade _ _ f.0 f.1 _ q.0 c.in_ok-end.end q.1, waits c.args.waiting.now f.0 c.steps.waiting q.0 c.watch_step.new.waiting f.2 q.2);
-      heard = hears_join c.args.committed.now.machine c.steps.committed.machine c.watch_step.new.committed.machine c.args.views.now c.steps.views c.watch_step.new.views
+      heard = hears_join c.args.committed.now.machine c.steps.committed.machine c.watch_step.new.committed.machine c.args.views.now c.steps.views
+          c.watch_step.new.views
           (remade_more _ _ _ _ q.1) c.steps.invariant.heard c.in_ok-end.ensures.heard;
     }

@@ -11,5 +11,6 @@ pub returns : goal.returns
 returns c = record {
   reasons = c.as_slice-2.result.now;
   are = subst (Reasons c.args.p.now (option_copied c.args.profile) c.args.rate c.args.plans.now) (sym c.as_slice-2.ensures) c.in_ok-reasons.ensures;
-  is = joined (plans_text c.args.p.now c.args.plans.now) c.as_slice-2.result.now (codes "end\n") _ _ _ c.in_ok-out.ensures c.in_ok-extend_from_slice.ensures.ok c.in_ok-extend_from_slice-2.ensures.ok;
+  is = joined (plans_text c.args.p.now c.args.plans.now) c.as_slice-2.result.now (codes "end\n") _ _ _ c.in_ok-out.ensures c.in_ok-extend_from_slice.ensures.ok
+      c.in_ok-extend_from_slice-2.ensures.ok;
 }

@@ -15,8 +15,10 @@ loop-plan-preserved c = λ later behind.
     let below : c.loop-plan.plan-index < length c.args.plans.now = omega arith in
     let here = more plan (drop (at + 1) all) added.units later added.are behind in
     let whole = c.loop-plan.invariant (reason_text p profile rate added.units plan ++ later)
-    (subst (λ (ps : List Plan). Reasons p profile rate ps (reason_text p profile rate added.units plan ++ later)) (sym (next_of all at plan below c.plan-item.is)) here) in
-    subst (Reasons p profile rate all) (sym (ap (λ (out : List ℕ). out ++ later) added.text ∙ append_assoc c.loop-plan.out (reason_text p profile rate added.units plan) later)) whole
+    (subst (λ (ps : List Plan). Reasons p profile rate ps (reason_text p profile rate added.units plan ++ later))
+    (sym (next_of all at plan below c.plan-item.is)) here) in
+    subst (Reasons p profile rate all) (sym (ap (λ (out : List ℕ). out ++ later) added.text
+    ∙ append_assoc c.loop-plan.out (reason_text p profile rate added.units plan) later)) whole
 
 pub returns : goal.returns
 returns c =

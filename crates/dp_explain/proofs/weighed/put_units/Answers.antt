@@ -11,6 +11,7 @@ loop-place-preserved c =
     let f : ℕ → List ℕ = unit_line c.args.places.now c.args.weights.now c.args.first c.args.nodes.now in
     let at = c.loop-place.place in let count = c.args.count in
     let below : c.loop-place.place < c.args.count = omega (arith, c.loop-place-test.true) in
-    joins_more (c.args.out.now ++ unit_lines c.args.places.now c.args.weights.now c.args.first c.args.nodes.now c.args.count) c.loop-place.out c.put_unit.new.out
+    joins_more (c.args.out.now ++ unit_lines c.args.places.now c.args.weights.now c.args.first c.args.nodes.now c.args.count)
+    c.loop-place.out c.put_unit.new.out
     (flat_map f (numbers_from at (count - at))) (f at) (flat_map f (numbers_from (at + 1) (count - (at + 1))))
     c.loop-place.invariant (ap (flat_map f) (count_next at count below)) c.in_ok-put_unit.ensures

@@ -15,4 +15,5 @@ loop-k-preserved g c =
 pub returns : goal.returns
 returns g c =
     let enough : length c.args.homes.now ≤ c.loop-k.k = search rules in
-    merged_same c.args.homes.now c.loop-k.registers c.args.cells.now (λ j below. c.loop-k.invariant.same j (omega (arith, below, enough))) (omega (arith, c.loop-k.invariant.long))
+    merged_same c.args.homes.now c.loop-k.registers c.args.cells.now (λ j below. c.loop-k.invariant.same j (omega (arith, below, enough)))
+    (omega (arith, c.loop-k.invariant.long))

@@ -9,7 +9,8 @@ size_of_all-loop-s-preserved t c =
     let each = c.args.each in let sizes = c.args.sizes.now in let all = c.args.all.now in let i = c.loop-s.s-index in
     let below : c.loop-s.s-index < length c.args.all.now = omega arith in
     let e : counted_list each sizes (drop i all) ≡ counted_one each sizes c.s-item.result + counted_list each sizes (drop (i + 1) all) =
-    at_drop_more (counted_list each sizes) all i c.s-item.result below ∙ ap (λ y. counted_list each sizes (y ∷ drop (i + 1) all)) (sym c.s-item.is) ∙ size-more each sizes c.s-item.result (drop (i + 1) all) in
+    at_drop_more (counted_list each sizes) all i c.s-item.result below ∙ ap (λ y. counted_list each sizes (y ∷ drop (i + 1) all)) (sym c.s-item.is)
+    ∙ size-more each sizes c.s-item.result (drop (i + 1) all) in
     (omega (arith, c.counted_sum-size.ensures), omega (arith, e, c.counted_sum-size.ensures, c.size_of.ensures.value, c.loop-s.invariant.1))
 
 pub size_of_all-returns-clause-value : goal.size_of_all-returns-clause-value

@@ -16,7 +16,8 @@ abbrev pub decreases-statements : goal.decreases-statements
 decreases-statements l = work_list (work_within l.p.now l.depth) l.all.now
 
 abbrev pub invariant-statements-loop-s : goal.invariant-statements-loop-s
-invariant-statements-loop-s l = after_list l.p l.depth l.around (written l.fn.out) l.all ≡ after_list l.p l.depth l.around (written l.out) (drop l.s-index l.all)
+invariant-statements-loop-s l =
+    after_list l.p l.depth l.around (written l.fn.out) l.all ≡ after_list l.p l.depth l.around (written l.out) (drop l.s-index l.all)
 
 abbrev pub decreases-branch : goal.decreases-branch
 decreases-branch l = 2 + (work_list (work_within l.p.now l.depth) l.then_part.now + work_list (work_within l.p.now l.depth) l.else_part.now)

@@ -4,7 +4,8 @@ use Rattle.dp_lean_judge.proofs.reading.agrees.Goals as goal
 
 pub returns-in-Some-clause-compares : goal.returns-in-Some-clause-compares
 returns-in-Some-clause-compares c = λ p plan site k at is shows.
-    held p plan site k c.args.seat at c.if-not-seat.false c.args.cells.now is c.args.readers.now c.next_loads.new.readers shows _ c.hold.result c.hold.ensures c.in-Some.ensures
+    held p plan site k c.args.seat at c.if-not-seat.false c.args.cells.now is c.args.readers.now c.next_loads.new.readers shows _ c.hold.result
+    c.hold.ensures c.in-Some.ensures
 
 pub returns-in-Some-clause-count : goal.returns-in-Some-clause-count
 returns-in-Some-clause-count c = loads_count c.args.readers.now c.next_loads.new.readers c.args.seat _ c.next_loads.ensures

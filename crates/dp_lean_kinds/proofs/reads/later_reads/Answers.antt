@@ -8,10 +8,12 @@ pub loop-place-preserved : goal.loop-place-preserved
 loop-place-preserved c =
     let here = c.loop-place-test.true in let many = c.in_ok-last.ensures.value in
     let below : c.loop-place.place < last c.args.plan.now = omega (arith, here, many) in
-    stage_next (stage_read c.args.program.now c.args.plan.now c.args.tables.now) c.loop-place.reads _ _ c.loop-place.place (last c.args.plan.now) below c.in_ok-region.ensures c.loop-place.invariant
+    stage_next (stage_read c.args.program.now c.args.plan.now c.args.tables.now) c.loop-place.reads _ _ c.loop-place.place (last c.args.plan.now) below
+    c.in_ok-region.ensures c.loop-place.invariant
 
 pub returns : goal.returns
 returns c =
     let many = c.in_ok-last.ensures.value in
     let over : last c.args.plan.now - c.loop-place.place ≡ 0 = omega (arith, many) in
-    stages_over (stage_read c.args.program.now c.args.plan.now c.args.tables.now) c.loop-place.reads _ c.loop-place.place (last c.args.plan.now) over c.loop-place.invariant
+    stages_over (stage_read c.args.program.now c.args.plan.now c.args.tables.now) c.loop-place.reads _ c.loop-place.place (last c.args.plan.now) over
+    c.loop-place.invariant

@@ -12,6 +12,7 @@ returns c =
     let p = c.args.p.now in let plan = c.args.plan.now in let tables = c.args.tables.now in let t = c.args.stage in
     subst (λ (kinds : List ColumnKind). IfOk c.kinds.result (λ made. made ≡ kinds))
     (ap (λ (reads : List ℕ). map (kind_among p plan tables t reads) c.as_slice-2.result.now) (c.as_slice.ensures ∙ c.in_ok-reads.ensures)
-    ∙ ap (λ (sites : List FormedSite). map (kind_among p plan tables t (stages_read p plan tables (t + 1) (last plan - t))) sites) (c.as_slice-2.ensures ∙ c.in_ok-sites.ensures)
+    ∙ ap (λ (sites : List FormedSite). map (kind_among p plan tables t (stages_read p plan tables (t + 1) (last plan - t))) sites) (c.as_slice-2.ensures
+    ∙ c.in_ok-sites.ensures)
     ∙ kinds_are p plan c.requires.inlined c.requires.fits c.requires.tabled tables c.requires.known t c.requires.low c.requires.high)
     c.kinds.ensures

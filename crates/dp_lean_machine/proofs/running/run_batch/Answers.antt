@@ -3,7 +3,7 @@ use Rattle.dp_lean_epoch.specs.LeanBatch.{Stood}
 use Rattle.dp_lean_region.specs.Line.{line_kinds}
 use Rattle.dp_lean_region.specs.Ready.{CanRead}
 use Rattle.dp_lean_machine.specs.Held.{kinds_in}
-use Rattle.dp_lean_machine.specs.Within.{Comes}
+use Rattle.dp_lean_machine.specs.Within.{ComesWithColumns}
 use Rattle.dp_lean_machine.specs.declared.batch.StageColumns.{StageColumns}
 use Rattle.dp_lean_machine.proofs.Exchanged.{some_low, kinds_back, take_before}
 use Rattle.dp_lean_machine.proofs.Over.{can_read}
@@ -23,8 +23,10 @@ run_over-done-requires-clause-locals g c = let ready = c.in-Some.ensures.ready i
 pub invariant_of-batch-2 : goal.invariant_of-batch-2
 invariant_of-batch-2 g c = record {
   kinds =
-      ap (map kinds_in) (c.exchanged-given.ensures.now ∙ ap (λ (xs : List StageColumns). slice_set xs c.args.place c.run_over-done.result.desk.own) c.exchanged-taken.ensures.now)
-      ∙ kinds_back c.args.batch.stages c.args.place c.args.desk.own c.run_over-done.result.desk.own c.exchanged-taken.result.own c.exchanged-taken.ensures.was c.run_over-done.ensures.kinds
+      ap (map kinds_in) (c.exchanged-given.ensures.now ∙ ap (λ (xs : List StageColumns). slice_set xs c.args.place c.run_over-done.result.desk.own)
+      c.exchanged-taken.ensures.now)
+      ∙ kinds_back c.args.batch.stages c.args.place c.args.desk.own c.run_over-done.result.desk.own c.exchanged-taken.result.own c.exchanged-taken.ensures.was
+      c.run_over-done.ensures.kinds
       ∙ c.args.batch.kinds;
 }
 
@@ -36,11 +38,13 @@ returns g c = record {
       let stood : Stood = record { iterations = c.args.batch.iterations; ends = ends } in
       let lent : earlier ≡ take c.args.place c.as_slice.result.now =
       sym (ap (take c.args.place) (c.as_slice.ensures ∙ c.exchanged-taken.ensures.now) ∙ take_before c.args.batch.stages c.args.place c.args.desk.own) in
-      passes_on e is c.args.place b within c.args.batch taken sent g.M.Memory.cells ends like c.args.desk.own c.run_over-done.result.desk.own _ c.run_over-done.result.memory c.run_over-done.result.ran
+      passes_on e is c.args.place b within c.args.batch taken sent g.M.Memory.cells ends like c.args.desk.own c.run_over-done.result.desk.own _
+      c.run_over-done.result.memory c.run_over-done.result.ran
       (some_low c.args.batch.stages c.args.place c.exchanged-taken.result.own c.exchanged-taken.ensures.was) refl refl
       (c.exchanged-given.ensures.now ∙ ap (λ (xs : List StageColumns). slice_set xs c.args.place c.run_over-done.result.desk.own) c.exchanged-taken.ensures.now)
       refl refl version_is
-      (c.run_over-done.ensures.done e c.args.place b ends like (comes_so e is c.args.place b within earlier stood taken item) (c.in-Some.ensures.runs e sent.line)
-      (subst (Comes e c.args.place b c.args.batch.iterations) lent (comes_with e is c.args.place b within earlier stood taken item)) stands)
+      (c.run_over-done.ensures.done e c.args.place b ends like (comes_so e is c.args.place b within earlier stood taken item)
+      (c.in-Some.ensures.runs e sent.line)
+      (subst (ComesWithColumns e c.args.place b c.args.batch.iterations) lent (comes_with e is c.args.place b within earlier stood taken item)) stands)
       );
 }

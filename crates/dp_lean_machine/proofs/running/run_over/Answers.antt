@@ -2,12 +2,15 @@ use Rattle.dp_lean_machine.proofs.Over.{begins, can_over, left_so}
 use Rattle.dp_lean_machine.proofs.running.run_over.Goals as goal
 
 pub run_all-ran-requires-clause-can : goal.run_all-ran-requires-clause-can
-run_all-ran-requires-clause-can g c = can_over c.args.stage c.args.desk.own.columns.kinds c.args.earlier.now c.requires.can _ c.cleared-columns.ensures.columns c.in-Ok.ensures
+run_all-ran-requires-clause-can g c =
+    can_over c.args.stage c.args.desk.own.columns.kinds c.args.earlier.now c.requires.can _ c.cleared-columns.ensures.columns c.in-Ok.ensures
 
 pub returns-clause-done : goal.returns-clause-done
 returns-clause-done g c e s b ends like is runs comes stands =
-    left_so g.M.Memory.cells e s b c.run_all-ran.new.turn c.run_all-ran.new.steps c.run_all-ran.result c.left.result.ran c.left.result.desk.own c.left.result.memory
+    left_so g.M.Memory.cells e s b c.run_all-ran.new.turn c.run_all-ran.new.steps c.run_all-ran.result c.left.result.ran c.left.result.desk.own
+    c.left.result.memory
     c.left.ensures.ran c.left.ensures.memory c.left.ensures.own
     (c.run_all-ran.ensures.ran e s b ends like is runs
-    (begins g.M.Memory.cells e s b c.args.came.iterations c.args.stage runs c.args.desk.own.columns.kinds c.requires.can.own_is c.args.earlier.now comes _ stands
+    (begins g.M.Memory.cells e s b c.args.came.iterations c.args.stage runs c.args.desk.own.columns.kinds c.requires.can.own_is
+    c.args.earlier.now comes _ stands
     c.cleared-columns.ensures.columns c.in-Ok.ensures c.cleared-columns.result.steps c.cleared-columns.ensures.steps))

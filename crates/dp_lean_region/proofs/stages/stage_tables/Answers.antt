@@ -16,7 +16,8 @@ loop-place-preserved c =
     let place : (c.loop-place.place + 1) - 1 ≡ length made = omega (arith, c.loop-place.invariant.0) in
     let here = subst (λ (n : ℕ). IsStage p plan kinds n stage) place c.in_ok-made.ensures in (
       (let more = ap length c.in_ok-push.ensures.ok in let many = length-append made (stage ∷ []) in omega (arith, more, many, c.loop-place.invariant.0)),
-      subst (λ (stages : List StageTables). AreStages p plan kinds stages) (sym c.in_ok-push.ensures.ok) (stage_more p plan kinds made stage c.loop-place.invariant.1 here),
+      subst (λ (stages : List StageTables). AreStages p plan kinds stages) (sym c.in_ok-push.ensures.ok)
+          (stage_more p plan kinds made stage c.loop-place.invariant.1 here),
     )
 
 pub returns : goal.returns

@@ -16,7 +16,8 @@ returns c =
       hidden = c.hidden.result;
       first = lent.first;
     } in
-    let tables = subst (λ (ops : List LeanOp). AreTurnTables lent.program.now lent.plan.now stage.of ops c.args.stage.now.turn) (sym c.as_slice.ensures) stage.tables in
+    let tables = subst (λ (ops : List LeanOp). AreTurnTables lent.program.now lent.plan.now stage.of ops c.args.stage.now.turn)
+    (sym c.as_slice.ensures) stage.tables in
     let own = c.kinds_at.ensures.own ∙ sym stage.own in let read = c.kinds_at.ensures.read ∙ sym stage.read in record {
       program = refl;
       under = refl;

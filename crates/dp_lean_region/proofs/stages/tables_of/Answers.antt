@@ -16,9 +16,11 @@ kinds_at-columns-requires c =
 pub new-requires-clause-places : goal.new-requires-clause-places
 new-requires-clause-places c = λ y checked.
     let p = c.args.program.now in let plan = c.args.plan.now in let f = c.requires.fitting in let s = c.args.number - 1 in
-    let own_is : c.kinds_at-columns.result.own.now ≡ get_or _ s [] = c.kinds_at-columns.ensures.own ∙ ap (λ (all : List (List ColumnKind)). get_or all s []) c.requires.kinds in
+    let own_is : c.kinds_at-columns.result.own.now ≡ get_or _ s [] = c.kinds_at-columns.ensures.own
+    ∙ ap (λ (all : List (List ColumnKind)). get_or all s []) c.requires.kinds in
     let upto : suc s ≤ length plan.stages = omega (arith, c.requires.low, c.requires.high) in
-    subst (λ (own : List ColumnKind). y - first_site p plan < length own) (sym own_is) (placed p plan f.inlined f.fits s y upto (checked_there p plan y checked))
+    subst (λ (own : List ColumnKind). y - first_site p plan < length own) (sym own_is)
+    (placed p plan f.inlined f.fits s y upto (checked_there p plan y checked))
 
 pub returns : goal.returns
 returns c =

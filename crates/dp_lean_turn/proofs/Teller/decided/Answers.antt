@@ -5,7 +5,8 @@ use Rattle.dp_lean_turn.proofs.Teller.decided.Goals as goal
 
 pub returns-then-self-clause-adds : goal.returns-then-self-clause-adds
 returns-then-self-clause-adds c = λ m before h event is other assumed.
-    step_counted c.args.frame.now m before c.args.self.now c.args.note.now h 0 c.args.value event is c.if-self.true other c.count.new.self c.count.result c.count.ensures.counts
+    step_counted c.args.frame.now m before c.args.self.now c.args.note.now h 0 c.args.value event is c.if-self.true other c.count.new.self c.count.result
+    c.count.ensures.counts
 
 pub returns-clause-adds : goal.returns-clause-adds
 returns-clause-adds c = λ m before h event is other assumed.

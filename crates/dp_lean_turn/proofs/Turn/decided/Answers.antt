@@ -9,10 +9,12 @@ returns-in-Goes-clause-does g c = λ m before st done pending value other assume
     let f = c.args.frame.now in
     let t = c.args.self.now in
     let same : to_z w64 (of_z w64 c.args.value) ≡ c.args.value = search rules in
-    let is = is_event cells f m before t st c.args.note.now pending c.args.site c.requires.own done 0 (to_z w64 (of_z w64 c.args.value)) (not_cell done other) (value ∙ sym same) in
+    let is = is_event cells f m before t st c.args.note.now pending c.args.site c.requires.own done 0 (to_z w64 (of_z w64 c.args.value)) (not_cell done other)
+    (value ∙ sym same) in
     goes cells f m before t st c.args.note.now pending c.args.site c.requires.own done _ c.args.next
     (c.in-Goes.ensures.adds m before st.held (event cells f m before t st c.args.note.now pending c.args.site c.requires.own done) is other assumed)
-    (sym (not_changed done (cells t.memory) other)) refl (c.close.ensures ∙ ap (λ (z : ℤ). t.closing || c.args.note.now.closes && is_zero z) (same ∙ sym value)) refl
+    (sym (not_changed done (cells t.memory) other)) refl (c.close.ensures ∙ ap (λ (z : ℤ). t.closing || c.args.note.now.closes && is_zero z)
+    (same ∙ sym value)) refl
 
 pub returns-in_default : goal.returns-in_default
 returns-in_default g c = record {
@@ -21,7 +23,8 @@ returns-in_default g c = record {
       let f = c.args.frame.now in
       let t = c.args.self.now in
       let same : to_z w64 (of_z w64 c.args.value) ≡ c.args.value = search rules in
-      let is = is_event cells f m before t st c.args.note.now pending c.args.site c.requires.own done 0 (to_z w64 (of_z w64 c.args.value)) (not_cell done other) (value ∙ sym same) in
+      let is = is_event cells f m before t st c.args.note.now pending c.args.site c.requires.own done 0 (to_z w64 (of_z w64 c.args.value)) (not_cell done other)
+      (value ∙ sym same) in
       goes_not cells f m before t st c.args.note.now pending c.args.site c.requires.own done _ c.args.next c.decided.result c.in_default.not-Goes
       (c.decided.ensures.adds m before st.held (event cells f m before t st c.args.note.now pending c.args.site c.requires.own done) is other assumed);
   keeps = record { own = c.decided.ensures.grown; read = refl };

@@ -11,10 +11,13 @@ returns-in-Ok-clause-does g c = λ m before st pending.
     let t = c.args.self.now in
     let same : to_z w64 (of_z w64 c.args.value) ≡ c.args.value = search rules in
     let effect = Stored c.args.cell c.args.value in
-    let is = is_event cells f m before t st c.args.note.now pending c.args.site c.requires.own effect c.args.cell (to_z w64 (of_z w64 c.args.value)) refl (sym same) in
+    let is = is_event cells f m before t st c.args.note.now pending c.args.site c.requires.own effect c.args.cell
+    (to_z w64 (of_z w64 c.args.value)) refl (sym same) in
     goes cells f m before t st c.args.note.now pending c.args.site c.requires.own effect _ c.args.next
-    (c.in-Goes.ensures.adds m before st.held (event cells f m before t st c.args.note.now pending c.args.site c.requires.own effect) is (ap (Stored c.args.cell) (sym same)))
-    (c.in-Ok.ensures ∙ ap (set (cells t.memory) c.args.cell) same) refl (c.close.ensures ∙ ap (λ (z : ℤ). t.closing || c.args.note.now.closes && is_zero z) same) refl
+    (c.in-Goes.ensures.adds m before st.held (event cells f m before t st c.args.note.now pending c.args.site c.requires.own effect) is
+    (ap (Stored c.args.cell) (sym same)))
+    (c.in-Ok.ensures ∙ ap (set (cells t.memory) c.args.cell) same) refl (c.close.ensures
+    ∙ ap (λ (z : ℤ). t.closing || c.args.note.now.closes && is_zero z) same) refl
 
 pub returns-in_default : goal.returns-in_default
 returns-in_default g c = record {
@@ -24,8 +27,10 @@ returns-in_default g c = record {
       let t = c.args.self.now in
       let same : to_z w64 (of_z w64 c.args.value) ≡ c.args.value = search rules in
       let effect = Stored c.args.cell c.args.value in
-      let is = is_event cells f m before t st c.args.note.now pending c.args.site c.requires.own effect c.args.cell (to_z w64 (of_z w64 c.args.value)) refl (sym same) in
+      let is = is_event cells f m before t st c.args.note.now pending c.args.site c.requires.own effect c.args.cell
+      (to_z w64 (of_z w64 c.args.value)) refl (sym same) in
       goes_not cells f m before t st c.args.note.now pending c.args.site c.requires.own effect _ c.args.next c.stored.result c.in_default.not-Goes
-      (c.stored.ensures.adds m before st.held (event cells f m before t st c.args.note.now pending c.args.site c.requires.own effect) is (ap (Stored c.args.cell) (sym same)));
+      (c.stored.ensures.adds m before st.held (event cells f m before t st c.args.note.now pending c.args.site c.requires.own effect) is
+      (ap (Stored c.args.cell) (sym same)));
   keeps = record { own = c.stored.ensures.grown; read = refl };
 }

@@ -7,9 +7,11 @@ use Rattle.dp_lean_turn.proofs.reading.take_block.Goals as goal
 
 pub block_of-requires : goal.block_of-requires
 block_of-requires c = record {
-  kind = c.requires.kind ∙ ap (λ kinds. kind_at kinds c.args.note.now.place) (kinds_are c.args.readers.now c.args.note.now.stage c.in-Some.reader.now c.if-note-eq0.false c.in-Some.ensures.value);
+  kind = c.requires.kind ∙ ap (λ kinds. kind_at kinds c.args.note.now.place) (kinds_are c.args.readers.now c.args.note.now.stage c.in-Some.reader.now
+      c.if-note-eq0.false c.in-Some.ensures.value);
 }
 
 pub returns-in-Some-clause-kinds : goal.returns-in-Some-clause-kinds
 returns-in-Some-clause-kinds c =
-    same_map (λ (r : Left). r.kinds) c.args.readers.now (c.args.note.now.stage - 1) c.in-Some.reader.now c.block_of.new.reader c.in-Some.ensures.value c.block_of.ensures.kinds
+    same_map (λ (r : Left). r.kinds) c.args.readers.now (c.args.note.now.stage - 1) c.in-Some.reader.now c.block_of.new.reader c.in-Some.ensures.value
+    c.block_of.ensures.kinds

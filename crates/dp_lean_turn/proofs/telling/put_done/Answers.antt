@@ -17,10 +17,13 @@ returns-then-kept-cell-clause-ok c =
     let kept = value_found c.args.own.now.kinds c.args.place c.in-Value.kept (sym c.requires.kind ∙ c.in-Value.is) in
     let cell = ap value_cell kept ∙ c.if-kept-cell.true in
     let same : to_z w64 (of_z w64 c.args.value) ≡ c.args.value = search rules in
-    rw c.in-Value.is (on_ok_weaker c.put_value.result (λ e. e ∙ ap (λ (n : ℕ). with_told c.args.place (Did n (to_z w64 (of_z w64 c.args.value))) c.args.own.now) cell ∙ ap (λ (z : ℤ). with_told c.args.place (Did c.args.cell z) c.args.own.now) same) c.put_value.ensures.ok)
+    rw c.in-Value.is (on_ok_weaker c.put_value.result (λ e. e ∙ ap (λ (n : ℕ). with_told c.args.place (Did n (to_z w64 (of_z w64 c.args.value))) c.args.own.now)
+    cell ∙ ap (λ (z : ℤ). with_told c.args.place (Did c.args.cell z) c.args.own.now) same) c.put_value.ensures.ok)
 
 pub returns-then-kept-cell-clause-grown : goal.returns-then-kept-cell-clause-grown
-returns-then-kept-cell-clause-grown c = grown_by c.put_value.result c.args.own.now c.put_value.new.self _ c.put_value.ensures.ok c.put_value.ensures.err (told_more c.args.place _ c.args.own.now)
+returns-then-kept-cell-clause-grown c =
+    grown_by c.put_value.result c.args.own.now c.put_value.new.self _ c.put_value.ensures.ok c.put_value.ensures.err (told_more c.args.place _ c.args.own.now)
 
 pub returns-in-Element-clause-grown : goal.returns-in-Element-clause-grown
-returns-in-Element-clause-grown c = grown_by c.put_element.result c.args.own.now c.put_element.new.self _ c.put_element.ensures.ok c.put_element.ensures.err (told_more c.args.place _ c.args.own.now)
+returns-in-Element-clause-grown c = grown_by c.put_element.result c.args.own.now c.put_element.new.own _ c.put_element.ensures.ok c.put_element.ensures.err
+    (told_more c.args.place _ c.args.own.now)

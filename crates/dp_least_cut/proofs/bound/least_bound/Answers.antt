@@ -13,7 +13,8 @@ loop-low-init c =
     record {
       order = omega arith;
       small = omega (arith, total);
-      keeps = λ carried right. all_fit c.args.costs.weights.now carried c.args.costs.workers c.total-high.result c.args.stages (omega (arith, low, total)) c.requires.some;
+      keeps = λ carried right. all_fit c.args.costs.weights.now carried c.args.costs.workers c.total-high.result c.args.stages
+          (omega (arith, low, total)) c.requires.some;
       least = λ carried right lower h fits. absurd (omega (arith, h));
     }
 
@@ -34,7 +35,8 @@ loop-low-preserved c =
             order = omega (arith, low_is, high_is);
             small = (let s = c.loop-low.invariant.small in omega (arith, high_is, s));
             keeps = λ carried right. subst (λ (x : ℕ). Fits ws carried k x c.args.stages true 0) (sym high_is)
-                ((c.in_ok-needs.ensures.par carried right 0 c.args.stages (omega arith) (omega arith) few).0 (subst (λ (x : ℕ). x ≤ c.args.stages) need w.if-index-stages.true));
+                ((c.in_ok-needs.ensures.par carried right 0 c.args.stages (omega arith) (omega arith) few).0
+                (subst (λ (x : ℕ). x ≤ c.args.stages) need w.if-index-stages.true));
             least = λ carried right lower h fits. c.loop-low.invariant.least carried right lower (omega (arith, h, low_is)) fits;
           }
       | else-index-stages w ↦
@@ -45,8 +47,10 @@ loop-low-preserved c =
             small = (let s = c.loop-low.invariant.small in omega (arith, high_is, s));
             keeps = λ carried right. subst (λ (x : ℕ). Fits ws carried k x c.args.stages true 0) (sym high_is) (c.loop-low.invariant.keeps carried right);
             least = λ carried right lower h fits.
-                let at : Fits ws carried k middle c.args.stages true 0 = fits_more ws carried k lower middle c.args.stages c.args.stages true 0 (omega (arith, h, low_is)) (omega arith) fits in
-                let enough : slice_index needs 0 ≤ c.args.stages = (c.in_ok-needs.ensures.par carried right 0 c.args.stages (omega arith) (omega arith) few).1 at in
+                let at : Fits ws carried k middle c.args.stages true 0 = fits_more ws carried k lower middle c.args.stages c.args.stages true 0
+                (omega (arith, h, low_is)) (omega arith) fits in
+                let enough : slice_index needs 0 ≤ c.args.stages = (c.in_ok-needs.ensures.par carried right 0 c.args.stages (omega arith)
+                (omega arith) few).1 at in
                 let many : c.args.stages < c.index.result.now = w.if-index-stages.false in
                 omega (arith, enough, many, need);
           }

@@ -8,7 +8,8 @@ invariant-loop-low l = record {
   order : l.low ≤ l.high;
   small : l.high ≤ sum l.costs.weights.now;
   keeps : (carried : List (ℕ × ℕ)) → AreLimits carried l.costs.limits.now → Fits l.costs.weights.now carried l.costs.workers l.high l.stages true 0;
-  least : (carried : List (ℕ × ℕ)) → AreLimits carried l.costs.limits.now → (lower : ℕ) → lower < l.low → Fits l.costs.weights.now carried l.costs.workers lower l.stages true 0 → ⊥;
+  least : (carried : List (ℕ × ℕ)) → AreLimits carried l.costs.limits.now → (lower : ℕ) → lower < l.low →
+      Fits l.costs.weights.now carried l.costs.workers lower l.stages true 0 → ⊥;
 }
 
 abbrev pub decreases-loop-low : goal.decreases-loop-low

@@ -6,8 +6,10 @@ pub loop-from-preserved : goal.loop-from-preserved
 loop-from-preserved c =
     let h : c.loop-from.from-index < length c.args.carried.now = omega arith in
     record {
-      low = low_more c.args.carried.now c.args.begin c.args.count c.loop-from.limit c.lesser_limit-limit.result c.loop-from.from-index h c.lesser_limit-limit.ensures.least c.lesser_limit-limit.ensures.most c.loop-from.invariant.low c.loop-from.invariant.high;
-      high = high_more c.args.carried.now c.args.begin c.args.count c.loop-from.limit c.lesser_limit-limit.result c.loop-from.from-index h c.lesser_limit-limit.ensures.least c.lesser_limit-limit.ensures.most c.loop-from.invariant.low c.loop-from.invariant.high;
+      low = low_more c.args.carried.now c.args.begin c.args.count c.loop-from.limit c.lesser_limit-limit.result c.loop-from.from-index h
+          c.lesser_limit-limit.ensures.least c.lesser_limit-limit.ensures.most c.loop-from.invariant.low c.loop-from.invariant.high;
+      high = high_more c.args.carried.now c.args.begin c.args.count c.loop-from.limit c.lesser_limit-limit.result c.loop-from.from-index h
+          c.lesser_limit-limit.ensures.least c.lesser_limit-limit.ensures.most c.loop-from.invariant.low c.loop-from.invariant.high;
     }
 
 pub returns : goal.returns

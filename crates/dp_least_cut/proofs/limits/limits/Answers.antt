@@ -9,11 +9,14 @@ loop-begin-preserved c =
     let new : ℕ = c.limit_from.result in
     let e : c.push.new.self.items ≡ xs ++ new ∷ [] = c.in_ok-push.ensures.items in
     let long : length xs ≡ c.loop-begin.begin = c.loop-begin.invariant.long in
-    let last : IsLimit c.args.carried.now c.args.count (length xs) new = subst (λ (x : ℕ). IsLimit c.args.carried.now c.args.count x new) (sym long) c.limit_from.ensures in
-    let before : (b : ℕ) → b < length xs → IsLimit c.args.carried.now c.args.count b (slice_index xs b) = λ b h. c.loop-begin.invariant.limits b (subst (λ (x : ℕ). b < x) long h) in
+    let last : IsLimit c.args.carried.now c.args.count (length xs) new = subst (λ (x : ℕ). IsLimit c.args.carried.now c.args.count x new) (sym long)
+    c.limit_from.ensures in
+    let before : (b : ℕ) → b < length xs → IsLimit c.args.carried.now c.args.count b (slice_index xs b) = λ b h. c.loop-begin.invariant.limits b
+    (subst (λ (x : ℕ). b < x) long h) in
     record {
       long = ap length e ∙ length-append xs (new ∷ []) ∙ ap (λ n. n + 1) long;
-      limits = λ b h. subst (λ (ys : List ℕ). IsLimit c.args.carried.now c.args.count b (slice_index ys b)) (sym e) (limits_more c.args.carried.now c.args.count new xs before last b (subst (λ (x : ℕ). b < x + 1) (sym long) h));
+      limits = λ b h. subst (λ (ys : List ℕ). IsLimit c.args.carried.now c.args.count b (slice_index ys b)) (sym e)
+          (limits_more c.args.carried.now c.args.count new xs before last b (subst (λ (x : ℕ). b < x + 1) (sym long) h));
     }
 
 pub returns-clause-limits : goal.returns-clause-limits

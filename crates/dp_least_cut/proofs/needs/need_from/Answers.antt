@@ -28,15 +28,25 @@ loop-last-preserved c =
     record {
       weight = w;
       need = λ most h. (
-        λ e. first_more ws c.args.costs.limits.now c.args.costs.workers c.args.bound c.args.after_seq.now c.args.after_par.now c.args.closed c.args.begin last some c.may_end-may.result c.may_end-may.ensures most
+        λ e. first_more ws c.args.costs.limits.now c.args.costs.workers c.args.bound c.args.after_seq.now c.args.after_par.now c.args.closed c.args.begin last
+            some c.may_end-may.result c.may_end-may.ensures most
             (elim ((c.lesser_need-least.ensures.need most h).0 e) [
               | inl was ↦ inl ((c.loop-last.invariant.need most h).0 was)
-              | inr new ↦ inr (new.0, subst (λ (x : ℕ). StageFits c.args.costs.workers c.args.bound c.may_end-may.result x (slice_index c.args.after_seq.now (last + 1)) (slice_index c.args.after_par.now (last + 1)) most new.0) w new.1)
+              | inr new ↦ inr (
+                new.0,
+                subst (λ (x : ℕ). StageFits c.args.costs.workers c.args.bound c.may_end-may.result x
+                    (slice_index c.args.after_seq.now (last + 1)) (slice_index c.args.after_par.now (last + 1)) most new.0) w new.1,
+              )
             ]),
         λ has. (c.lesser_need-least.ensures.need most h).1
-            (elim (first_less ws c.args.costs.limits.now c.args.costs.workers c.args.bound c.args.after_seq.now c.args.after_par.now c.args.closed c.args.begin last some c.may_end-may.result c.may_end-may.ensures most has) [
+            (elim (first_less ws c.args.costs.limits.now c.args.costs.workers c.args.bound c.args.after_seq.now c.args.after_par.now c.args.closed c.args.begin
+            last some c.may_end-may.result c.may_end-may.ensures most has) [
               | inl was ↦ inl ((c.loop-last.invariant.need most h).1 was)
-              | inr new ↦ inr (new.0, subst (λ (x : ℕ). StageFits c.args.costs.workers c.args.bound c.may_end-may.result x (slice_index c.args.after_seq.now (last + 1)) (slice_index c.args.after_par.now (last + 1)) most new.0) (sym w) new.1)
+              | inr new ↦ inr (
+                new.0,
+                subst (λ (x : ℕ). StageFits c.args.costs.workers c.args.bound c.may_end-may.result x
+                    (slice_index c.args.after_seq.now (last + 1)) (slice_index c.args.after_par.now (last + 1)) most new.0) (sym w) new.1,
+              )
             ]),
       );
     }
@@ -44,4 +54,5 @@ loop-last-preserved c =
 pub returns : goal.returns
 returns c =
     let at : c.loop-last.last ≡ length c.args.costs.weights.now = omega arith in
-    subst (λ (x : ℕ). (most : ℕ) → most ≤ 8 → (c.loop-last.least ≤ most) ↔ HasFirst c.args.costs.weights.now c.args.costs.limits.now c.args.costs.workers c.args.bound c.args.after_seq.now c.args.after_par.now c.args.closed c.args.begin x most) at c.loop-last.invariant.need
+    subst (λ (x : ℕ). (most : ℕ) → most ≤ 8 → (c.loop-last.least ≤ most) ↔ HasFirst c.args.costs.weights.now c.args.costs.limits.now c.args.costs.workers
+    c.args.bound c.args.after_seq.now c.args.after_par.now c.args.closed c.args.begin x most) at c.loop-last.invariant.need

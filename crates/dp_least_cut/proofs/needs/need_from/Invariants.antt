@@ -6,5 +6,6 @@ use Rattle.dp_least_cut.proofs.needs.need_from.Given as goal
 abbrev pub invariant-loop-last : goal.invariant-loop-last
 invariant-loop-last l = record {
   weight : l.weight ≡ weight_between l.costs.weights.now l.begin l.last;
-  need : (most : ℕ) → most ≤ 8 → (l.least ≤ most) ↔ HasFirst l.costs.weights.now l.costs.limits.now l.costs.workers l.bound l.after_seq l.after_par l.closed l.begin l.last most;
+  need : (most : ℕ) → most ≤ 8 → (l.least ≤ most) ↔ HasFirst l.costs.weights.now l.costs.limits.now l.costs.workers l.bound l.after_seq l.after_par l.closed
+      l.begin l.last most;
 }

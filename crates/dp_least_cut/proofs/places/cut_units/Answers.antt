@@ -11,7 +11,9 @@ returns c =
     let carried : List (ℕ × ℕ) = c.args.carried.now in
     let items : List ℕ = c.in_ok-limits.limits.items in
     let at_items : AreLimits carried items =
-    subst (λ (n : ℕ). (begin : ℕ) → begin < n → IsLimit carried n begin (slice_index items begin)) (sym c.in_ok-limits.ensures.length) c.in_ok-limits.ensures.limits in
+    subst (λ (n : ℕ). (begin : ℕ) → begin < n → IsLimit carried n begin (slice_index items begin)) (sym c.in_ok-limits.ensures.length)
+    c.in_ok-limits.ensures.limits in
     let right : AreLimits carried c.as_slice.result.now = subst (λ (x : List ℕ). AreLimits carried x) (sym c.as_slice.ensures.value) at_items in
     subst (λ (k : ℕ). IsLeastCut ws carried c.args.stages k c.in_ok-cut.cut) c.from.ensures
-    (least_of_best ws carried c.args.stages c.from.result c.in_ok-bound.bound c.in_ok-cut.cut (c.in_ok-cut.ensures carried right) (c.in_ok-bound.ensures.least carried right))
+    (least_of_best ws carried c.args.stages c.from.result c.in_ok-bound.bound c.in_ok-cut.cut (c.in_ok-cut.ensures carried right)
+    (c.in_ok-bound.ensures.least carried right))

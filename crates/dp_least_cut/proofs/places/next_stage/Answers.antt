@@ -9,7 +9,8 @@ pub returns-in-Some-first_kind : goal.returns-in-Some-first_kind
 returns-in-Some-first_kind c carried right fits =
     let few : c.args.left ≤ 8 = omega arith in
     next_begins c.args.costs.weights.now c.args.costs.limits.now c.args.costs.workers c.args.bound c.requires.costs carried right
-    c.args.left c.args.closed c.args.begin c.loop-end.end few (c.loop-end.invariant carried right) c.in_default.ensures.none c.in-Some-first_kind.replicated (omega arith) (omega arith)
+    c.args.left c.args.closed c.args.begin c.loop-end.end few (c.loop-end.invariant carried right) c.in_default.ensures.none c.in-Some-first_kind.replicated
+    (omega arith) (omega arith)
     c.in-Some-first_kind.ensures.stands c.in-Some-first_kind.ensures.least (c.in-Some-first_kind.ensures.rest carried right)
 
 pub loop-end-preserved : goal.loop-end-preserved
@@ -24,4 +25,5 @@ pub returns : goal.returns
 returns c carried right fits =
     let few : c.args.left ≤ 8 = omega arith in
     absurd (one_begins c.args.costs.weights.now c.args.costs.limits.now c.args.costs.workers c.args.bound c.requires.costs carried right
-    c.args.left c.args.closed c.args.begin c.loop-end.end few (c.loop-end.invariant carried right) c.in_default.ensures.none (omega arith) c.requires.begin fits)
+    c.args.left c.args.closed c.args.begin c.loop-end.end few (c.loop-end.invariant carried right) c.in_default.ensures.none (omega arith)
+    c.requires.begin fits)

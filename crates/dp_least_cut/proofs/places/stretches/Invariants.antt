@@ -8,7 +8,8 @@ abbrev pub invariant-loop-begin : goal.invariant-loop-begin
 invariant-loop-begin l = record {
   few : l.left ≤ l.stages;
   fits : (carried : List (ℕ × ℕ)) → AreLimits carried l.costs.limits.now → Fits l.costs.weights.now carried l.costs.workers l.bound l.left l.closed l.begin;
-  best : (carried : List (ℕ × ℕ)) → AreLimits carried l.costs.limits.now → (rest : List Stretch) → Best l.costs.weights.now carried l.costs.workers l.bound l.left l.closed l.begin rest
+  best : (carried : List (ℕ × ℕ)) → AreLimits carried l.costs.limits.now → (rest : List Stretch) →
+      Best l.costs.weights.now carried l.costs.workers l.bound l.left l.closed l.begin rest
       → Best l.costs.weights.now carried l.costs.workers l.bound l.stages true 0 (l.cut ++ rest);
 }
 

@@ -20,7 +20,8 @@ log_next-requires-clause-stands g c =
 pub returns-in_err-log_next-clause-streams : goal.returns-in_err-log_next-clause-streams
 returns-in_err-log_next-clause-streams g c p plan input first number s =
     let f = c.iterations.invariant.so_far p plan input first number s in
-    stopped c.from_residual.result _ _ _ _ c.from_residual.ensures.0 (pours_front _ _ _ _ _ f.2 (c.in_err-log_next.ensures.streams p plan input first f.0 number f.1))
+    stopped c.from_residual.result _ _ _ _ c.from_residual.ensures.0
+    (pours_front _ _ _ _ _ f.2 (c.in_err-log_next.ensures.streams p plan input first f.0 number f.1))
 
 pub iterations-preserved : goal.iterations-preserved
 iterations-preserved g c = record {
@@ -29,7 +30,9 @@ iterations-preserved g c = record {
         suc f.0,
         subst (Logged p plan input first f.0 c.log_next.new.runner) c.in-None.is (c.in_ok-log_next.ensures.ok p plan input first f.0 f.1),
         pours_on _ _ _ _ _ _ f.2
-            (subst (λ (e : Option RegionEnd). Pours (c.iterations.out ++ left_lines p plan (region_run first) f.0) (c.log_next.new.out ++ left_then p plan (region_run first) f.0 e) (g.K.Sink.written c.iterations.sink) (g.K.Sink.written c.log_next.new.sink)) c.in-None.is
+            (subst (λ (e : Option RegionEnd). Pours (c.iterations.out ++ left_lines p plan (region_run first) f.0)
+            (c.log_next.new.out ++ left_then p plan (region_run first) f.0 e) (g.K.Sink.written c.iterations.sink)
+            (g.K.Sink.written c.log_next.new.sink)) c.in-None.is
             (c.in_ok-log_next.ensures.streams p plan input first f.0 number f.1)),
       );
   faults = c.in_ok-log_next.ensures.faults ∙ c.iterations.invariant.faults;
@@ -46,5 +49,6 @@ returns-in-Some-clause-streams g c p plan input first number s =
     let f = c.iterations.invariant.so_far p plan input first number s in
     left_none _ c.log_next.new.out [] _ _ refl
     (pours_on _ _ _ _ _ _ f.2
-    (subst (λ (e : Option RegionEnd). Pours (c.iterations.out ++ left_lines p plan (region_run first) f.0) (c.log_next.new.out ++ left_then p plan (region_run first) f.0 e) (g.K.Sink.written c.iterations.sink) (g.K.Sink.written c.log_next.new.sink)) c.in-Some.is
+    (subst (λ (e : Option RegionEnd). Pours (c.iterations.out ++ left_lines p plan (region_run first) f.0)
+    (c.log_next.new.out ++ left_then p plan (region_run first) f.0 e) (g.K.Sink.written c.iterations.sink) (g.K.Sink.written c.log_next.new.sink)) c.in-Some.is
     (c.in_ok-log_next.ensures.streams p plan input first f.0 number f.1)))

@@ -8,13 +8,16 @@ use Rattle.dp_messages.proofs.reason.why_audit.Goals as goal
 
 pub returns-in-Refused-clause-finds : goal.returns-in-Refused-clause-finds
 returns-in-Refused-clause-finds g c words asks =
-    run_refused _ (ToAudit (shown c.args.run) c.args.log.now) _ (for_audit (shown c.args.run) c.args.log.now) words asks _ _ _ _ _ (given _ _ _ (c.in_ok-refusal.was ∙ ap Ok c.in-Refused.is) c.load_texts.ensures.loads)
+    run_refused _ (ToAudit (shown c.args.run) c.args.log.now) _ (for_audit (shown c.args.run) c.args.log.now) words asks _ _ _ _ _
+    (given _ _ _ (c.in_ok-refusal.was ∙ ap Ok c.in-Refused.is) c.load_texts.ensures.loads)
 
 pub returns-in-Failed-clause-finds : goal.returns-in-Failed-clause-finds
 returns-in-Failed-clause-finds g c words asks =
-    run_unread _ (ToAudit (shown c.args.run) c.args.log.now) _ (for_audit (shown c.args.run) c.args.log.now) words asks _ _ _ _ _ (given _ _ _ (c.in_ok-refusal.was ∙ ap Ok c.in-Failed.is) c.load_texts.ensures.loads)
+    run_unread _ (ToAudit (shown c.args.run) c.args.log.now) _ (for_audit (shown c.args.run) c.args.log.now) words asks _ _ _ _ _
+    (given _ _ _ (c.in_ok-refusal.was ∙ ap Ok c.in-Failed.is) c.load_texts.ensures.loads)
 
 pub returns-clause-finds : goal.returns-clause-finds
 returns-clause-finds g c words asks =
     let read = given _ _ _ (c.in_ok-refusal.was ∙ ap Ok c.in-Run.is) c.load_texts.ensures.loads in
-    rw c.found_in.ensures (log_finds _ _ _ words _ _ _ _ _ _ _ _ read _ _ c.in_ok-last.was asks (rw c.load_texts.ensures.contents at c.load_log.ensures.loads) c.load_log.ensures.faults)
+    rw c.found_in.ensures (log_finds _ _ _ words _ _ _ _ _ _ _ _ read _ _ c.in_ok-last.was asks (rw c.load_texts.ensures.contents at c.load_log.ensures.loads)
+    c.load_log.ensures.faults)

@@ -9,5 +9,6 @@ invariant-loop-sites l = record {
   size : length l.all ≡ l.sites-index;
   region : l.region ≡ l.sites-index;
   few : l.region < 2 ^ 32;
-  each : (place : ℕ) (sites : List RegionSite) (c : Counter) → slice_get l.regions place ≡ Some sites → slice_get l.all place ≡ Some c → Starts l.program (place + 1) sites c;
+  each : (place : ℕ) (sites : List RegionSite) (c : Counter) → slice_get l.regions place ≡ Some sites → slice_get l.all place ≡ Some c →
+      Starts l.program (place + 1) sites c;
 }

@@ -5,4 +5,5 @@ use Rattle.dp_observe.proofs.rows.empty_rows.Goals as goal
 pub loop-site-preserved : goal.loop-site-preserved
 loop-site-preserved c =
     let test = c.loop-site-test.true in
-    pushed_same [] c.args.sites.now c.loop-site._site-index c.loop-site.rows c.push.new.self c.new.result _ (omega arith) c.in_ok-push.ensures.ok c.new.ensures c.loop-site.invariant
+    pushed_same [] c.args.sites.now c.loop-site._site-index c.loop-site.rows c.push.new.self c.new.result _ (omega arith) c.in_ok-push.ensures.ok c.new.ensures
+    c.loop-site.invariant

@@ -10,7 +10,8 @@ pub loop-token-preserved : goal.loop-token-preserved
 loop-token-preserved c =
     let l = c.loop-token in let ts = c.args.tokens.now in let s = c.symbol_of-symbol.result in
     let rest = symbols (drop (l.token-index + 1) ts) in
-    let step = ap (else_from l.after_else) (symbols_step ts l.token-index s _ c.loop-token-test.true c.symbol_of-symbol.ensures) ∙ else_next l.after_else s rest in
+    let step = ap (else_from l.after_else) (symbols_step ts l.token-index s _ c.loop-token-test.true c.symbol_of-symbol.ensures)
+    ∙ else_next l.after_else s rest in
     let counted : c.from-count.result ≡ one (l.after_else && is_if s) = c.from-count.ensures ∙ byte_one c.is_if_after.result ∙ ap one c.is_if_after.ensures in
     let after = ap (λ b. else_from b rest) c.is_else-after_else.ensures in
     let small = one-le (l.after_else && is_if s) in let inv = l.invariant in let a = inv.0 in let b = inv.1 in

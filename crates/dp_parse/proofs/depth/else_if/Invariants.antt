@@ -6,4 +6,5 @@ use Rattle.dp_parse.proofs.depth.else_if.Given as goal
 
 abbrev pub invariant-loop-token : goal.invariant-loop-token
 invariant-loop-token l =
-    (else_if (map lexeme l.tokens) ≡ l.count + else_from l.after_else (symbols (drop l.token-index l.tokens))) × (l.count ≤ l.token-index) × (length l.tokens < 4294967296)
+    (else_if (map lexeme l.tokens) ≡ l.count + else_from l.after_else (symbols (drop l.token-index l.tokens))) × (l.count ≤ l.token-index)
+    × (length l.tokens < 4294967296)

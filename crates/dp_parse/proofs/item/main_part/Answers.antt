@@ -1,7 +1,7 @@
 use Rattle.std.proofs.Common.{◌≡◌, refl, ap, ◌∙◌, sym, rules, arith, ◌-◌, List, true, false, Err}
 use Rattle.std.proofs.lemmas.Grind.{common_steps}
 use Rattle.dp_tree.specs.declared.raw.RawStmt.{RawStmt}
-use Rattle.dp_tokens.specs.Steps.{Outcome, ◌>>=◌, and_then, pure}
+use Rattle.dp_tokens.specs.Steps.{Outcome, ◌>>=◌, parse_then, pure}
 use Rattle.dp_parse.specs.steps.Programs as read
 use Rattle.dp_parse.proofs.Lists.{many_turn, many_none, many_end}
 use Rattle.dp_parse.proofs.Empty.{top_empty}
@@ -10,7 +10,7 @@ use Rattle.dp_parse.proofs.item.main_part.Goals as goal
 
 -- what follows the statements of `main`
 abbrev closing : Outcome (List RawStmt) → Outcome (List RawStmt)
-closing o = and_then o (λ body. read.end >>= (λ _. pure body))
+closing o = parse_then o (λ body. read.end >>= (λ _. pure body))
 
 pub returns-in_err-top : goal.returns-in_err-top
 returns-in_err-top c =
@@ -37,11 +37,11 @@ returns-in_err-end c =
     let ends = many_end read.top read.ends l.invariant.0 l.body l.tokens over (ends_some l.tokens over) l.invariant.1 in
     let left = c.end.new.tokens in
     let fails : read.end l.tokens ≡ Err left → read.main_part c.args.tokens.now ≡ Err left = λ h.
-    l.invariant.2 ∙ ap closing ends ∙ ap (λ (o : Outcome (Unit {0})). and_then o (λ _. pure l.body)) h in
+    l.invariant.2 ∙ ap closing ends ∙ ap (λ (o : Outcome (Unit {0})). parse_then o (λ _. pure l.body)) h in
     first_of (search rules, grind (arith, common_steps))
 
 pub returns : goal.returns
 returns c =
     let l = c.loop-alloc in let over : read.ends l.tokens ≡ true = sym c.ends.ensures ∙ c.loop-alloc-test.false in
     let ends = many_end read.top read.ends l.invariant.0 l.body l.tokens over (ends_some l.tokens over) l.invariant.1 in
-    l.invariant.2 ∙ ap closing ends ∙ ap (λ (o : Outcome (Unit {0})). and_then o (λ _. pure l.body)) c.in_ok-end.ensures.reads
+    l.invariant.2 ∙ ap closing ends ∙ ap (λ (o : Outcome (Unit {0})). parse_then o (λ _. pure l.body)) c.in_ok-end.ensures.reads

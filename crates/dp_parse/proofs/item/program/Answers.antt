@@ -12,12 +12,18 @@ use Rattle.dp_parse.proofs.item.program.Goals as goal
 
 pub loop-items-init : goal.loop-items-init
 unfolding read.program
-loop-items-init c = (length c.args.tokens.now, omega arith, ap (λ items. read.program_from (length c.args.tokens.now) items c.args.tokens.now) (sym c.new-items.ensures))
+loop-items-init c = (
+  length c.args.tokens.now,
+  omega arith,
+  ap (λ items. read.program_from (length c.args.tokens.now) items c.args.tokens.now) (sym
+      c.new-items.ensures),
+)
 
 pub returns-in_err-item : goal.returns-in_err-item
 returns-in_err-item c =
     let l = c.loop-items in let left = c.next_part.new.tokens in
-    let fails : read.part l.tokens ≡ Err left → read.program c.args.tokens.now ≡ Err left = λ h. l.invariant.2 ∙ program_none l.invariant.0 l.items l.tokens left h l.invariant.1 in
+    let fails : read.part l.tokens ≡ Err left → read.program c.args.tokens.now ≡ Err left = λ h. l.invariant.2
+    ∙ program_none l.invariant.0 l.items l.tokens left h l.invariant.1 in
     first_of (search rules, grind (arith, common_steps))
 
 -- a part and what is left

@@ -19,7 +19,8 @@ loop-token-preserved c =
     let l = c.loop-token in let text = c.args.text.now in
     let next = rw c.in-Ok-Some.field-0-is at c.in-Ok-Some.ensures.next in
     let within = next_within text l.lexer.text l.invariant.1 l.tokens l.lexer.place c.next.new.self.place l.invariant.0 l.invariant.2 c.in-Ok-Some.token next in (
-      rw c.in_ok-push-in-Ok-Some.ensures.ok (next_token text l.lexer.text l.invariant.1 l.tokens l.lexer.place c.next.new.self.place l.invariant.0 l.invariant.2 c.in-Ok-Some.token next),
+      rw c.in_ok-push-in-Ok-Some.ensures.ok (next_token text l.lexer.text l.invariant.1 l.tokens l.lexer.place c.next.new.self.place l.invariant.0 l.invariant.2
+          c.in-Ok-Some.token next),
       c.next.ensures.text ∙ l.invariant.1,
       within.1,
     )
@@ -32,4 +33,5 @@ returns-in-Ok-None c =
 pub returns-in-Err : goal.returns-in-Err
 returns-in-Err c =
     let l = c.loop-token in let next = c.in-Err.ensures.next in
-    refused_token c.args.text.now l.lexer.text l.invariant.1 l.tokens l.lexer.place c.next.new.self.place l.invariant.0 l.invariant.2 c.in-Err.refused.place next.0 next.1 next.2
+    refused_token c.args.text.now l.lexer.text l.invariant.1 l.tokens l.lexer.place c.next.new.self.place l.invariant.0 l.invariant.2 c.in-Err.refused.place
+    next.0 next.1 next.2

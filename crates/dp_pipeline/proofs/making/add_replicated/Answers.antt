@@ -13,7 +13,8 @@ pub add_unit-requires-clause-start : goal.add_unit-requires-clause-start
 add_unit-requires-clause-start c =
     let lane : LaneKey = record { epoch = c.args.setting.now.key.epoch; stage = c.args.setting.now.key.stage + 1 } in (
       c.requires.source.0,
-      (puts_first c.in_ok-input.input c.in_ok-input.output.ring c.args.setting.now.size.lane lane c.args.setting.now.key.stage c.in_ok-input.ensures.producer refl c.requires.setting.fuel).0,
+      (puts_first c.in_ok-input.input c.in_ok-input.output.ring c.args.setting.now.size.lane lane c.args.setting.now.key.stage c.in_ok-input.ensures.producer
+          refl c.requires.setting.fuel).0,
     )
 
 pub add_workers-requires-clause-replicated : goal.add_workers-requires-clause-replicated
@@ -30,7 +31,8 @@ add_workers-requires-clause-seats c =
 pub returns-clause-next : goal.returns-clause-next
 returns-clause-next c =
     let lane : LaneKey = record { epoch = c.args.setting.now.key.epoch; stage = c.args.setting.now.key.stage + 1 } in
-    collects_first c.in_ok-input.output c.in_ok-input.output.ring c.args.setting.now.size.lane (2 ^ 62 - c.args.setting.now.size.workers * 2 ^ 32) lane c.in_ok-input.ensures.consumer
+    collects_first c.in_ok-input.output c.in_ok-input.output.ring c.args.setting.now.size.lane (2 ^ 62 - c.args.setting.now.size.workers * 2 ^ 32) lane
+    c.in_ok-input.ensures.consumer
 
 pub new-requires-send-T : goal.new-requires-send-T
 new-requires-send-T c κs within = search (carried_send, sendable) depth 60 fits 20000

@@ -28,7 +28,13 @@ returns-clause-supply c =
       spares = (
         c.args.key.now.stage,
         0,
-        record { lane = c.args.key.now; view_is = ap (λ (e : End LaneKey). e.view) (c.in_ok-supply.ensures.spares ∙ c.in_ok-end.ensures.taker); epoch = refl; stage = refl },
+        record {
+          lane = c.args.key.now;
+          view_is = ap (λ (e : End LaneKey). e.view) (c.in_ok-supply.ensures.spares
+              ∙ c.in_ok-end.ensures.taker);
+          epoch = refl;
+          stage = refl;
+        },
       );
       last = last_line key c.args.line c.in_ok-supply.supply.last c.requires.line c.in_ok-supply.ensures.last;
     }

@@ -12,7 +12,8 @@ loop-at-preserved c = (
       (subst (λ (seats : List (Standing LaneKey)). Each (IsUnused c.args.setting.now.key) seats) c.in-Some.ensures c.loop-at.invariant.0)).0,
   c.seat.ensures.kept ∙ c.loop-at.invariant.1,
   (let more = ap length c.in_ok-push.ensures.ok in let many = length-append c.loop-at.units (c.in_ok-unit.unit ∷ []) in
-      let fewer = ap length c.in-Some.ensures in let few = length-append c.pop.new.self (c.in-Some.at ∷ []) in omega (arith, more, many, fewer, few, c.loop-at.invariant.2)),
+      let fewer = ap length c.in-Some.ensures in let few = length-append c.pop.new.self (c.in-Some.at ∷ []) in
+      omega (arith, more, many, fewer, few, c.loop-at.invariant.2)),
 )
 
 pub returns-clause-count : goal.returns-clause-count

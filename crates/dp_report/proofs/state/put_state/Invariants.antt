@@ -5,4 +5,5 @@ use Rattle.dp_report.specs.StateText.{variable_line}
 use Rattle.dp_report.proofs.state.put_state.Given as goal
 
 abbrev pub invariant-loop-var : goal.invariant-loop-var
-invariant-loop-var l = l.out ++ flat_map (variable_line l.cells) (globals_in (drop l.var-index l.vars)) ≡ l.initial.out ++ flat_map (variable_line l.cells) (globals_in l.vars)
+invariant-loop-var l =
+    l.out ++ flat_map (variable_line l.cells) (globals_in (drop l.var-index l.vars)) ≡ l.initial.out ++ flat_map (variable_line l.cells) (globals_in l.vars)

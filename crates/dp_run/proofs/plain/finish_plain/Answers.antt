@@ -21,21 +21,24 @@ calls-preserved g c =
 
 pub returns-in-Done-clause-ok : goal.returns-in-Done-clause-ok
 returns-in-Done-clause-ok g c =
-    part_ends _ _ _ c.calls.invariant.so_far (subst (λ (end : PartEnd). PartSteps c.calls.machine c.go_on.new.machine end) c.in-Done.is c.in_ok-go_on.ensures.ok)
+    part_ends _ _ _ c.calls.invariant.so_far (subst (λ (end : PartEnd). PartSteps c.calls.machine c.go_on.new.machine end) c.in-Done.is
+    c.in_ok-go_on.ensures.ok)
 
 pub returns-in-Done-clause-streams : goal.returns-in-Done-clause-streams
 returns-in-Done-clause-streams g c = emits_on _ _ _ _ _ _ c.calls.invariant.emits c.in_ok-go_on.ensures.streams
 
 pub returns-in-Fault-clause-ok : goal.returns-in-Fault-clause-ok
 returns-in-Fault-clause-ok g c =
-    part_faults _ _ _ c.calls.invariant.so_far c.in-Fault.fault (subst (λ (end : PartEnd). PartSteps c.calls.machine c.go_on.new.machine end) c.in-Fault.is c.in_ok-go_on.ensures.ok)
+    part_faults _ _ _ c.calls.invariant.so_far c.in-Fault.fault (subst (λ (end : PartEnd). PartSteps c.calls.machine c.go_on.new.machine end) c.in-Fault.is
+    c.in_ok-go_on.ensures.ok)
 
 pub returns-in-Fault-clause-streams : goal.returns-in-Fault-clause-streams
 returns-in-Fault-clause-streams g c = emits_on _ _ _ _ _ _ c.calls.invariant.emits c.in_ok-go_on.ensures.streams
 
 pub returns-in-Fuel-clause-ok : goal.returns-in-Fuel-clause-ok
 returns-in-Fuel-clause-ok g c =
-    part_spent _ _ _ c.calls.invariant.so_far (subst (λ (end : PartEnd). PartSteps c.calls.machine c.go_on.new.machine end) c.in-Fuel.is c.in_ok-go_on.ensures.ok)
+    part_spent _ _ _ c.calls.invariant.so_far (subst (λ (end : PartEnd). PartSteps c.calls.machine c.go_on.new.machine end) c.in-Fuel.is
+    c.in_ok-go_on.ensures.ok)
 
 pub returns-in-Fuel-clause-streams : goal.returns-in-Fuel-clause-streams
 returns-in-Fuel-clause-streams g c = emits_on _ _ _ _ _ _ c.calls.invariant.emits c.in_ok-go_on.ensures.streams
@@ -50,7 +53,8 @@ calls-init g c = record {
 
 pub returns-in_err-go_on-clause-before : goal.returns-in_err-go_on-clause-before
 returns-in_err-go_on-clause-before g c =
-    on_err c.from_residual.result _ (before_on c.args.machine.now c.calls.machine 0 c.calls.invariant.so_far.passed c.args.waiting.now c.calls.waiting _ _ _ c.calls.invariant.emits 0 (omega arith) c.in_err-go_on.ensures.before)
+    on_err c.from_residual.result _ (before_on c.args.machine.now c.calls.machine 0 c.calls.invariant.so_far.passed c.args.waiting.now c.calls.waiting _ _ _
+    c.calls.invariant.emits 0 (omega arith) c.in_err-go_on.ensures.before)
 
 pub returns-in-Done-clause-passes : goal.returns-in-Done-clause-passes
 returns-in-Done-clause-passes g c = steps_passed _ _ _ c.calls.invariant.so_far _ c.in_ok-go_on.ensures.ok

@@ -18,8 +18,10 @@ returns-then-steps-fuel g c =
     let fuel = c.fuel.ensures in
     let more = c.if-before-steps.true in
     let left = c.if-steps-fuel.true in
-    going_call c.args.machine.now c.go_on.new.machine c.args.waiting.now c.go_on.new.out c.requires c.go_on.ensures plain (omega (arith, before, now, more)) (omega (arith, now, fuel, left))
+    going_call c.args.machine.now c.go_on.new.machine c.args.waiting.now c.go_on.new.out c.requires c.go_on.ensures plain (omega (arith, before, now, more))
+    (omega (arith, now, fuel, left))
 
 pub returns : goal.returns
 returns g c =
-    machine_call c.args.machine.now c.go_on.new.machine c.args.waiting.now c.go_on.new.out c.requires c.go_on.ensures 65536 (omega arith) c.run_part.new.self c.run_part.new.out c.run_part.result c.run_part.ensures.runs
+    machine_call c.args.machine.now c.go_on.new.machine c.args.waiting.now c.go_on.new.out c.requires c.go_on.ensures 65536 (omega arith) c.run_part.new.self
+    c.run_part.new.out c.run_part.result c.run_part.ensures.runs

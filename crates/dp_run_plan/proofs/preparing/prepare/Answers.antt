@@ -3,7 +3,7 @@ use Rattle.std.proofs.lemmas.Option.{slice_get_read}
 use Rattle.dp_plan.specs.declared.Plan.{Plan}
 use Rattle.dp_prepared.specs.Planned.{prepared_of}
 use Rattle.dp_prepared.proofs.Plans.{planned_at}
-use Rattle.dp_run_plan.specs.Others.{MayRunAs, entry_of, others_of}
+use Rattle.dp_run_plan.specs.Others.{MayRunAs, plan_entry, others_of}
 use Rattle.dp_run_plan.proofs.Prepared.{may_run_at, place_is}
 use Rattle.dp_run_plan.proofs.preparing.prepare.Goals as goal
 
@@ -21,5 +21,6 @@ new-requires-clause-other c =
     let at = slice_get_read plans _ i c.plan-item.result refl (omega arith) c.plan-item.is in
     let place : c.len.result ≡ i = c.len.ensures ∙ place_is (prepared_of c.args.program.now) c.loop-plan.regions plans i (omega arith) c.loop-plan.invariant in
     subst (MayRunAs c.args.program.now c.plan-item.result)
-    (sym (c.at-other.ensures ∙ ap (λ (l : List (Option Plan)). entry_of (slice_get l c.len.result)) c.requires.others.others ∙ ap (λ (j : ℕ). entry_of (slice_get (others_of chooses plans) j)) place))
+    (sym (c.at-other.ensures ∙ ap (λ (l : List (Option Plan)). plan_entry (slice_get l c.len.result)) c.requires.others.others
+    ∙ ap (λ (j : ℕ). plan_entry (slice_get (others_of chooses plans) j)) place))
     (may_run_at c.args.program.now c.requires.inlined chooses plans i c.plan-item.result c.requires.plans at)

@@ -8,7 +8,8 @@ use Rattle.dp_save.proofs.write.write_checkpoint.Goals as goal
 
 pub returns-clause-text : goal.returns-clause-text
 returns-clause-text c =
-    let head : c.extend_from_slice.new.self ≡ [] ++ codes "checkpoint 1\n" = c.in_ok-extend_from_slice.ensures.ok ∙ ap (λ (l : List ℕ). l ++ codes "checkpoint 1\n") c.new-out.ensures in
+    let head : c.extend_from_slice.new.self ≡ [] ++ codes "checkpoint 1\n" = c.in_ok-extend_from_slice.ensures.ok
+    ∙ ap (λ (l : List ℕ). l ++ codes "checkpoint 1\n") c.new-out.ensures in
     let cells : c.put_cells.new.out ≡ c.put_place.new.out ++ cells_text c.args.c.now.cells =
     c.in_ok-put_cells.ensures ∙ ap (λ (l : List ℤ). c.put_place.new.out ++ cells_text l) c.as_slice.ensures in
     let reports : c.put_reports.new.out ≡ c.put_cells.new.out ++ reports_text c.args.c.now.reports =
@@ -17,7 +18,8 @@ returns-clause-text c =
 
 pub returns-clause-read : goal.returns-clause-read
 returns-clause-read c = λ fits.
-    let head : c.extend_from_slice.new.self ≡ [] ++ codes "checkpoint 1\n" = c.in_ok-extend_from_slice.ensures.ok ∙ ap (λ (l : List ℕ). l ++ codes "checkpoint 1\n") c.new-out.ensures in
+    let head : c.extend_from_slice.new.self ≡ [] ++ codes "checkpoint 1\n" = c.in_ok-extend_from_slice.ensures.ok
+    ∙ ap (λ (l : List ℕ). l ++ codes "checkpoint 1\n") c.new-out.ensures in
     let cells : c.put_cells.new.out ≡ c.put_place.new.out ++ cells_text c.args.c.now.cells =
     c.in_ok-put_cells.ensures ∙ ap (λ (l : List ℤ). c.put_place.new.out ++ cells_text l) c.as_slice.ensures in
     let reports : c.put_reports.new.out ≡ c.put_cells.new.out ++ reports_text c.args.c.now.reports =

@@ -13,7 +13,8 @@ pub returns : goal.returns
 returns c =
     let s = c.in_ok-statement.statement.now in
     let up_here : goes_up_from (first_site c.args.p.now c.args.plan.now) (part_list None c.in_ok-statement.statement.now) ≡ true =
-    ap (goes_up_from (first_site c.args.p.now c.args.plan.now)) (sym (c.as_slice.ensures ∙ c.in_ok-parts.ensures)) ∙ ap (λ (k : ℕ). goes_up_from k c.as_slice.result.now) (sym c.first_site.ensures) ∙ sym c.goes_up.ensures ∙ c.if-not-goes_up.false in
+    ap (goes_up_from (first_site c.args.p.now c.args.plan.now)) (sym (c.as_slice.ensures ∙ c.in_ok-parts.ensures))
+    ∙ ap (λ (k : ℕ). goes_up_from k c.as_slice.result.now) (sym c.first_site.ensures) ∙ sym c.goes_up.ensures ∙ c.if-not-goes_up.false in
     let parts_are = c.as_slice-2.ensures ∙ c.in_ok-parts.ensures in
     let stores_are = c.as_slice-3.ensures ∙ c.in_ok-stores.ensures
     ∙ ap (λ (ps : List Part). storings c.args.p.now c.args.plan.now ps c.body_of.result.now) parts_are

@@ -4,4 +4,5 @@ use Rattle.dp_sites.specs.Storings as spec
 use Rattle.dp_sites.proofs.differing.sees_otherwise.Given as goal
 
 abbrev pub invariant-loop-storing : goal.invariant-loop-storing
-invariant-loop-storing l = list_any (spec.stores_otherwise l.p l.plan l.part l.load.var) (drop l.storing-index l.all) ≡ list_any (spec.stores_otherwise l.p l.plan l.part l.load.var) l.all
+invariant-loop-storing l = list_any (spec.stores_otherwise l.p l.plan l.part l.load.var) (drop l.storing-index l.all) ≡ list_any
+    (spec.stores_otherwise l.p l.plan l.part l.load.var) l.all

@@ -16,9 +16,13 @@ loop-place-preserved c =
     let here = c.loop-place-test.true in
     let below : c.loop-place.place < length c.args.plan.now.stage_of = omega (arith, here, many) in
     let from : c.loop-place.place ≡ 0 + c.loop-place.place = omega arith in
-    let stores_are = c.as_slice-in-loop-place.ensures ∙ c.in_ok-stores.ensures ∙ ap (λ (ps : List Part). storings c.args.p.now c.args.plan.now ps c.args.body.now) c.as_slice.ensures in
+    let stores_are = c.as_slice-in-loop-place.ensures ∙ c.in_ok-stores.ensures
+    ∙ ap (λ (ps : List Part). storings c.args.p.now c.args.plan.now ps c.args.body.now) c.as_slice.ensures in
     let answer_is : c.answer.result ≡ answer_at c.args.p.now c.args.plan.now c.args.parts.now c.args.body.now c.loop-place.place =
     c.answer.ensures ∙ ap (λ (st : List Storing). checked_or c.args.p.now c.args.plan.now st (option_copied c.get.result)) stores_are
     ∙ ap (checked_or c.args.p.now c.args.plan.now (storings c.args.p.now c.args.plan.now c.args.parts.now c.args.body.now)) c.get.ensures.value in
-    ap (λ (out : List Bool). out ++ map (answer_at c.args.p.now c.args.plan.now c.args.parts.now c.args.body.now) (numbers_from (0 + (c.loop-place.place + 1)) (length c.args.plan.now.stage_of - (c.loop-place.place + 1)))) (c.in_ok-push.ensures.ok ∙ ap (λ (b : Bool). c.loop-place.found ++ b ∷ []) answer_is)
-    ∙ table-next (answer_at c.args.p.now c.args.plan.now c.args.parts.now c.args.body.now) c.loop-place.found _ 0 place n c.loop-place.place below from c.loop-place.invariant
+    ap (λ (out : List Bool). out ++ map (answer_at c.args.p.now c.args.plan.now c.args.parts.now c.args.body.now)
+    (numbers_from (0 + (c.loop-place.place + 1)) (length c.args.plan.now.stage_of - (c.loop-place.place + 1)))) (c.in_ok-push.ensures.ok
+    ∙ ap (λ (b : Bool). c.loop-place.found ++ b ∷ []) answer_is)
+    ∙ table-next (answer_at c.args.p.now c.args.plan.now c.args.parts.now c.args.body.now) c.loop-place.found _ 0 place n c.loop-place.place below from
+    c.loop-place.invariant

@@ -12,5 +12,10 @@ pub returns : goal.returns
 returns c =
     let p = c.args.p.now in let plan = c.args.plan.now in
     let up_here : goes_up_from (first_site c.args.p.now c.args.plan.now) (part_list None c.in_ok-statement.statement.now) ≡ true =
-    ap (goes_up_from (first_site c.args.p.now c.args.plan.now)) (sym (c.as_slice.ensures ∙ c.in_ok-parts.ensures)) ∙ ap (λ (k : ℕ). goes_up_from k c.as_slice.result.now) (sym c.first_site.ensures) ∙ sym c.goes_up.ensures ∙ c.if-not-goes_up.false in
-    c.in_ok-found.ensures ∙ ap (λ (ps : List Part). map (answer_at c.args.p.now c.args.plan.now ps c.body_of.result.now) (numbers_from 0 (length c.args.plan.now.stage_of))) c.in_ok-parts.ensures ∙ ap (λ (b : List Stmt). map (answer_at c.args.p.now c.args.plan.now (part_list None c.in_ok-statement.statement.now) b) (numbers_from 0 (length c.args.plan.now.stage_of))) c.body_of.ensures ∙ table_made p plan c.in_ok-statement.statement.now c.in_ok-statement.ensures.once up_here
+    ap (goes_up_from (first_site c.args.p.now c.args.plan.now)) (sym (c.as_slice.ensures ∙ c.in_ok-parts.ensures))
+    ∙ ap (λ (k : ℕ). goes_up_from k c.as_slice.result.now) (sym c.first_site.ensures) ∙ sym c.goes_up.ensures ∙ c.if-not-goes_up.false in
+    c.in_ok-found.ensures
+    ∙ ap (λ (ps : List Part). map (answer_at c.args.p.now c.args.plan.now ps c.body_of.result.now) (numbers_from 0 (length c.args.plan.now.stage_of)))
+    c.in_ok-parts.ensures ∙ ap (λ (b : List Stmt). map (answer_at c.args.p.now c.args.plan.now (part_list None c.in_ok-statement.statement.now) b)
+    (numbers_from 0 (length c.args.plan.now.stage_of))) c.body_of.ensures
+    ∙ table_made p plan c.in_ok-statement.statement.now c.in_ok-statement.ensures.once up_here

@@ -10,7 +10,8 @@ returns-in_ok-push-in-Element t c =
     let w = c.in-Element in
     two_parts c.args.out.now _ _ (loads_in w.index) (record { var = w.var; place = index_place w.index } ∷ [])
     (c.in_ok-put_loads-in-Element.ensures ∙ ap (λ (x : Expr). c.args.out.now ++ loads_in x) c.get-in-Element.ensures)
-    (c.in_ok-push-in-Element.ensures.ok ∙ ap (λ (q : Option Place). c.put_loads-in-Element.new.out ++ record { var = w.var; place = q } ∷ []) (c.place_of-place.ensures ∙ ap index_place c.get-in-Element-2.ensures))
+    (c.in_ok-push-in-Element.ensures.ok ∙ ap (λ (q : Option Place). c.put_loads-in-Element.new.out ++ record { var = w.var; place = q } ∷ [])
+    (c.place_of-place.ensures ∙ ap index_place c.get-in-Element-2.ensures))
     ∙ ap (λ (l : List Touched). c.args.out.now ++ l) (sym (load-Element w.var w.index) ∙ ap loads_in (sym w.is))
 
 pub returns-in_ok-put_loads-in-Binary-2 : goal.returns-in_ok-put_loads-in-Binary-2

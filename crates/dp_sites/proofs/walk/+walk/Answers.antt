@@ -7,7 +7,8 @@ use Rattle.dp_sites.proofs.walk.+walk.Goals as goal
 pub ask_each-returns-in_ok-ask_all-in-If-2 : goal.ask_each-returns-in_ok-ask_all-in-If-2
 ask_each-returns-in_ok-ask_all-in-If-2 g t c =
     let w = c.in-If in let gives = g.Q.Question.gives in
-    own_and_two c.args.out.now c.ask.new.out c.ask_all.new.out c.ask_all-in-If.new.out (gives c.args.statement.now) (flat_map (asked gives) w.then_part) (flat_map (asked gives) w.else_part) c.in_ok-ask.ensures
+    own_and_two c.args.out.now c.ask.new.out c.ask_all.new.out c.ask_all-in-If.new.out (gives c.args.statement.now) (flat_map (asked gives) w.then_part)
+    (flat_map (asked gives) w.else_part) c.in_ok-ask.ensures
     (rw c.as_slice.ensures at c.in_ok-ask_all-in-If.ensures)
     (rw c.as_slice-in-If.ensures at c.in_ok-ask_all-in-If-2.ensures)
     (rw w.is (asked-If gives w.site w.cond w.then_part w.else_part))

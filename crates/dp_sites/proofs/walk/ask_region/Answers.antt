@@ -19,7 +19,8 @@ loop-statement-preserved g c =
       | then-is_region+in_ok-ask_each w ↦
           joins_more (asked_in_region gives r all) c.loop-statement.found c.if-is_region.found (asked_in_region gives r (drop i all))
           (asked gives s) (asked_in_region gives r (drop (i + 1) all))
-          c.loop-statement.invariant (region-next gives r all i s below item (sym c.is_region.ensures ∙ w.if-is_region.true)) (w.found-is ∙ w.in_ok-ask_each.ensures)
+          c.loop-statement.invariant (region-next gives r all i s below item (sym c.is_region.ensures ∙ w.if-is_region.true)) (w.found-is
+          ∙ w.in_ok-ask_each.ensures)
       | else-is_region w ↦
           none_joins (asked_in_region gives r all) c.loop-statement.found c.if-is_region.found {whole = asked_in_region gives r (drop i all)}
           c.loop-statement.invariant (region-skip gives r all i s below item (sym c.is_region.ensures ∙ w.if-is_region.false)) w.found-is

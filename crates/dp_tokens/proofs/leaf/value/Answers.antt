@@ -27,8 +27,12 @@ loop-digit-preserved c =
     let i = c.loop-digit.digit-index in
     let here = digit_value_digit (get_or ds i 0) (when_true _ _ c.if-not-is_ascii_digit.false c.is_ascii_digit.ensures.cases) in
     let next = digits_next ds i c.loop-digit-test.true (omega arith) in
-    let value = c.loop-digit.invariant.0 in
-    (omega arith, omega arith, all_next ds i c.loop-digit-test.true c.loop-digit.invariant.2 (sym c.is_ascii_digit.ensures.value ∙ c.if-not-is_ascii_digit.false))
+    let value = c.loop-digit.invariant.0 in (
+      omega arith,
+      omega arith,
+      all_next ds i c.loop-digit-test.true c.loop-digit.invariant.2 (sym c.is_ascii_digit.ensures.value
+          ∙ c.if-not-is_ascii_digit.false),
+    )
 
 pub returns : goal.returns
 returns c =

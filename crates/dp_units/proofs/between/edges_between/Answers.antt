@@ -8,4 +8,5 @@ loop-from-preserved c =
     let i : ℕ = c.loop-from.from-index in
     let edge : ℕ × ℕ = slice_index_or edges i (0, 0) in
     let h : i < length edges = omega arith in
-    between_more edges c.args.leader_of.now i c.loop-from.between.items c.add_edge.new.between.items edge.0 edge.1 h refl c.in_ok-add_edge.ensures.same c.in_ok-add_edge.ensures.apart c.loop-from.invariant
+    between_more edges c.args.leader_of.now i c.loop-from.between.items c.add_edge.new.between.items edge.0 edge.1 h refl c.in_ok-add_edge.ensures.same
+    c.in_ok-add_edge.ensures.apart c.loop-from.invariant

@@ -5,5 +5,6 @@ use Rattle.dp_units.proofs.between.entering.Given as goal
 abbrev pub invariant-loop-edge : goal.invariant-loop-edge
 invariant-loop-edge l = record {
   each : length l.waits.items ≡ l.count;
-  counts : (node : ℕ) → node < l.count → slice_index l.waits.items node + waits_for l.count (replicate l.count l.count) (drop l.edge-index l.edges) node ≡ waits_for l.count (replicate l.count l.count) l.edges node;
+  counts : (node : ℕ) → node < l.count → slice_index l.waits.items node + waits_for l.count (replicate l.count l.count) (drop l.edge-index l.edges) node
+      ≡ waits_for l.count (replicate l.count l.count) l.edges node;
 }

@@ -7,7 +7,8 @@ use Rattle.dp_units.proofs.free.first_free.Goals as goal
 pub loop-node-preserved : goal.loop-node-preserved
 loop-node-preserved c = elim c.if-leader_of-node.branch [
   | then-leader_of-node+in_ok-offer w ↦
-      let more = free_offered c.args.leader_of.now c.args.waits.now c.loop-node.free.keys w.offer.new.free.keys c.loop-node.node c.loop-node.invariant w.if-leader_of-node.true
+      let more = free_offered c.args.leader_of.now c.args.waits.now c.loop-node.free.keys w.offer.new.free.keys c.loop-node.node c.loop-node.invariant
+      w.if-leader_of-node.true
       w.in_ok-offer.ensures.from w.in_ok-offer.ensures.kept w.in_ok-offer.ensures.added in
       subst (λ (s : BTreeSet ℕ). AreFree c.args.leader_of.now c.args.waits.now s.keys (c.loop-node.node + 1)) (sym w.free-is) more
   | else-leader_of-node w ↦

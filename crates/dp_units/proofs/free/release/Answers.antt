@@ -41,7 +41,9 @@ loop-node-preserved c =
     let offer = c.in_ok-offer.ensures in
     record {
       less = less_more initial c.loop-node.waits row i node h refl low c.loop-node.auto.waits c.requires.enough before.less;
-      from = from_more initial _ row i node h refl low c.loop-node.auto.waits c.requires.enough before.less c.args.free.now.keys c.loop-node.free.keys c.offer.new.free.keys before.from before.added offer.from offer.kept offer.added;
+      from = from_more initial _ row i node h refl low c.loop-node.auto.waits c.requires.enough before.less c.args.free.now.keys c.loop-node.free.keys
+          c.offer.new.free.keys before.from before.added offer.from offer.kept offer.added;
       kept = λ y has. offer.kept y (before.kept y has);
-      added = added_more initial _ row i node h refl low c.loop-node.auto.waits c.requires.enough before.less c.args.free.now.keys c.loop-node.free.keys c.offer.new.free.keys before.from before.added offer.from offer.kept offer.added;
+      added = added_more initial _ row i node h refl low c.loop-node.auto.waits c.requires.enough before.less c.args.free.now.keys c.loop-node.free.keys
+          c.offer.new.free.keys before.from before.added offer.from offer.kept offer.added;
     }

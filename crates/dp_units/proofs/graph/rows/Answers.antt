@@ -21,4 +21,5 @@ loop-from-preserved c =
     }
 
 pub returns-clause-graph : goal.returns-clause-graph
-returns-clause-graph c = is_graph c.args.edges.now c.loop-from.rows.items c.args.count c.loop-from.from-index c.loop-from.invariant.count c.requires (omega arith) c.loop-from.invariant.targets
+returns-clause-graph c = is_graph c.args.edges.now c.loop-from.rows.items c.args.count c.loop-from.from-index c.loop-from.invariant.count c.requires
+    (omega arith) c.loop-from.invariant.targets

@@ -14,7 +14,8 @@ leader_by-leader-requires c =
     let i : ℕ = c.loop-mark.mark-index in
     let h : i < length c.as_slice-mark-items.result.now = omega arith in
     let at : At marks i (slice_index_or c.as_slice-mark-items.result.now i Unseen) =
-    subst (λ (ms : List Mark). At ms i (slice_index_or c.as_slice-mark-items.result.now i Unseen)) c.as_slice-mark-items.ensures.value (item_at c.as_slice-mark-items.result.now i Unseen h) in
+    subst (λ (ms : List Mark). At ms i (slice_index_or c.as_slice-mark-items.result.now i Unseen)) c.as_slice-mark-items.ensures.value
+    (item_at c.as_slice-mark-items.result.now i Unseen h) in
     let (unit, is, low) = c.requires i (slice_index_or c.as_slice-mark-items.result.now i Unseen) at in
     (unit, is, subst (λ (ls : List ℕ). unit < length ls) (sym c.as_slice.ensures.value) low)
 
@@ -26,14 +27,16 @@ loop-mark-preserved c =
     let leader : ℕ = c.leader_by-leader.result in
     let h : i < length c.as_slice-mark-items.result.now = omega arith in
     let mark : Mark = slice_index_or c.as_slice-mark-items.result.now i Unseen in
-    let at : At marks i mark = subst (λ (ms : List Mark). At ms i mark) c.as_slice-mark-items.ensures.value (item_at c.as_slice-mark-items.result.now i Unseen h) in
+    let at : At marks i mark = subst (λ (ms : List Mark). At ms i mark) c.as_slice-mark-items.ensures.value
+    (item_at c.as_slice-mark-items.result.now i Unseen h) in
     let longer : length c.push.new.self.items ≡ length made + 1 = ap (λ (xs : List ℕ). length xs) c.in_ok-push.ensures.items ∙ length_push made leader in
     let before = c.loop-mark.invariant in
     record {
       count = (let e : length made ≡ i = before.count in omega (arith, longer, e));
       made = λ v unit l low closed there.
           ap (λ (xs : List ℕ). slice_index xs v) c.in_ok-push.ensures.items
-          ∙ leader_more marks _ made i leader mark before.count at (λ u is. subst (λ (ls : List ℕ). At ls u leader) c.as_slice.ensures.value (c.leader_by-leader.ensures u is)) before.made v unit l low closed there;
+          ∙ leader_more marks _ made i leader mark before.count at (λ u is. subst (λ (ls : List ℕ). At ls u leader) c.as_slice.ensures.value
+          (c.leader_by-leader.ensures u is)) before.made v unit l low closed there;
     }
 
 pub returns-clause-made : goal.returns-clause-made

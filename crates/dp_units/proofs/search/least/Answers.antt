@@ -11,7 +11,8 @@ loop-node-preserved c =
     let h : i < length nodes = omega arith in
     record {
       member = subst (λ k. Has nodes k) (sym c.min-least.ensures) (least_more nodes c.loop-node.least i h c.loop-node.invariant.member);
-      least = λ k node before at. subst (λ x. x ≤ node) (sym c.min-least.ensures) (least_below nodes c.loop-node.least i h c.loop-node.invariant.least k node before at);
+      least = λ k node before at. subst (λ x. x ≤ node) (sym c.min-least.ensures)
+          (least_below nodes c.loop-node.least i h c.loop-node.invariant.least k node before at);
     }
 
 pub returns-clause-least : goal.returns-clause-least

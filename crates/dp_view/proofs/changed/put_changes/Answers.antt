@@ -8,5 +8,6 @@ pub returns : goal.returns
 returns c among =
     let test = differs c.args.before.now c.args.after.now in
     sym (append-nil c.loop-cell.out)
-    ∙ sym (at_drop_all (λ (cells : List ℕ). c.loop-cell.out ++ found_from test (length c.args.after.now) c.loop-cell.next cells) c.args.cells.now c.loop-cell.cell-index (omega (arith, c.loop-cell-test.false)))
+    ∙ sym (at_drop_all (λ (cells : List ℕ). c.loop-cell.out ++ found_from test (length c.args.after.now) c.loop-cell.next cells) c.args.cells.now
+    c.loop-cell.cell-index (omega (arith, c.loop-cell-test.false)))
     ∙ c.loop-cell.invariant ∙ changes_found test (length c.args.after.now) c.args.cells.now c.requires among

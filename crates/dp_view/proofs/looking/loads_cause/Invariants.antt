@@ -4,4 +4,5 @@ use Rattle.dp_semantics.specs.LoadedCells.{load_from}
 use Rattle.dp_view.proofs.looking.loads_cause.Given as goal
 
 abbrev pub invariant-loop-cell : goal.invariant-loop-cell
-invariant-loop-cell l = load_cause_in l.view l.site.0 (map (load_from l.source) (drop l.cell-index l.cells)) ≡ load_cause_in l.view l.site.0 (map (load_from l.source) l.cells)
+invariant-loop-cell l =
+    load_cause_in l.view l.site.0 (map (load_from l.source) (drop l.cell-index l.cells)) ≡ load_cause_in l.view l.site.0 (map (load_from l.source) l.cells)

@@ -10,5 +10,6 @@ returns c =
     let size = changed-length (λ (place : ℕ) (view : List ℤ). f view) c.loop-place.place c.args.views.now in
     let same = ap length c.loop-place.invariant in
     c.loop-place.invariant
-    ∙ changed_all (λ (place : ℕ) (view : List ℤ). f view) c.loop-place.place c.args.views.now (map f c.args.views.now) (omega (arith, c.loop-place-test.false, size, same))
+    ∙ changed_all (λ (place : ℕ) (view : List ℤ). f view) c.loop-place.place c.args.views.now (map f c.args.views.now)
+    (omega (arith, c.loop-place-test.false, size, same))
     (length-map c.args.views.now f) (λ j h. map_at f c.args.views.now j h)

@@ -7,4 +7,5 @@ returns c near =
     let size = shared-length c.args.plan.now c.args.cells.now (c.loop-place.place - 1) c.args.views.now in
     let same = ap length c.loop-place.invariant.views in
     c.loop-place.invariant.views
-    ∙ all_shared c.args.plan.now c.args.cells.now c.args.views.now near (c.loop-place.place - 1) (omega (arith, c.loop-place-test.false, c.loop-place.invariant.low, size, same))
+    ∙ all_shared c.args.plan.now c.args.cells.now c.args.views.now near (c.loop-place.place - 1)
+    (omega (arith, c.loop-place-test.false, c.loop-place.invariant.low, size, same))

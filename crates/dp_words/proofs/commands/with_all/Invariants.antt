@@ -4,4 +4,5 @@ use Rattle.dp_words.specs.steps.Table.{rule_for, with_rules}
 use Rattle.dp_words.proofs.commands.with_all.Given as goal
 
 abbrev pub invariant-loop-argument : goal.invariant-loop-argument
-invariant-loop-argument l = with_rules (app_of l.command) (map rule_for (drop l.argument-index l.arguments)) ≡ with_rules (app_of l.fn.command) (map rule_for l.arguments)
+invariant-loop-argument l =
+    with_rules (app_of l.command) (map rule_for (drop l.argument-index l.arguments)) ≡ with_rules (app_of l.fn.command) (map rule_for l.arguments)

@@ -9,7 +9,8 @@ found-requires c = record { numbers = subst TakesNumbers (sym c.in_ok-command_of
 
 pub returns-in-Some : goal.returns-in-Some
 returns-in-Some c =
-    told_by c.args.line.verb _ _ c.in_ok-command_of.ensures c.in_ok-matches.field-0 c.in-Some.matches c.in-Some.is c.in_ok-matches.ensures.some c.task_in.result c.task_in.ensures
+    told_by c.args.line.verb _ _ c.in_ok-command_of.ensures c.in_ok-matches.field-0 c.in-Some.matches c.in-Some.is c.in_ok-matches.ensures.some
+    c.task_in.result c.task_in.ensures
 
 pub returns-in-None : goal.returns-in-None
 returns-in-None c = untold_by c.args.line.verb _ _ c.in_ok-command_of.ensures c.in_ok-matches.field-0 c.in-None.is c.in_ok-matches.ensures.none

@@ -4,7 +4,8 @@ use Rattle.std.proofs.lemmas.Bool.{false_from_ne_true}
 use Rattle.std.proofs.lemmas.List.{drop_all}
 use Rattle.dp_plan.specs.Written.{has}
 use Rattle.dp_audit.specs.Copy.{changed_but}
-use Rattle.dp_audit.proofs.CopyLemmas.{behind_there, has_moved, has_none, least_there, listed_all, listing_begins, listing_next, noted_cells, noted_sets, others_left, same_but, same_values}
+use Rattle.dp_audit.proofs.CopyLemmas.{behind_there, has_moved, has_none, least_there, listed_all, listing_begins, listing_next, noted_cells, noted_sets}
+use Rattle.dp_audit.proofs.CopyLemmas.{others_left, same_but, same_values}
 use Rattle.dp_audit.proofs.known.Known.changes_among.Goals as goal
 
 pub loop-cell-init : goal.loop-cell-init
@@ -26,7 +27,8 @@ loop-cell-preserved c =
     let there = get_or items c.loop-cell.cell-index 0 in
     let h = c.loop-cell-test.true in
     let less : c.loop-cell.cell-index < length items = omega (arith, h) in
-    let least = λ (cell : ℕ) (t : changed_but c.args.self.now.locals c.loop-cell.self.cells c.args.now.now cell ≡ true). least_there items c.loop-cell.cell-index less i.ascending cell (i.ahead cell t) in
+    let least = λ (cell : ℕ) (t : changed_but c.args.self.now.locals c.loop-cell.self.cells c.args.now.now cell ≡ true). least_there items
+    c.loop-cell.cell-index less i.ascending cell (i.ahead cell t) in
     let cells = noted_cells c.args.now.now there _ _ i.locals c.loop-cell.self.cells c.note.new.self.cells n.cells in
     let sets = noted_sets c.args.now.now there _ _ i.locals c.loop-cell.self.cells c.loop-cell.sets c.note.new.sets n.sets in
     record {
@@ -52,5 +54,6 @@ returns-clause-copy c =
     let over : drop c.loop-cell.cell-index items ≡ [] = drop_all c.loop-cell.cell-index items (omega (arith, f)) in
     record {
       size = c.loop-cell.invariant.listing.size;
-      same = same_but _ _ c.loop-cell.invariant.locals (same_values _ _ _ _ _ c.loop-cell.invariant.listing (λ cell. false_from_ne_true _ (λ t. has_none cell _ over (c.loop-cell.invariant.ahead cell t))));
+      same = same_but _ _ c.loop-cell.invariant.locals (same_values _ _ _ _ _ c.loop-cell.invariant.listing
+          (λ cell. false_from_ne_true _ (λ t. has_none cell _ over (c.loop-cell.invariant.ahead cell t))));
     }

@@ -16,7 +16,8 @@ pub changes-requires-clause-size : goal.changes-requires-clause-size
 changes-requires-clause-size c =
     let j = c.requires.judged in
     let done = c.in_ok-commit.ensures in
-    judged_size j.0 j.1 j.2 j.3 c.args.self.now j.4 c.args.clean j.5 c.commit.new.self.committed done.ok c.commit.new.self.account done.account true c.requires.closing
+    judged_size j.0 j.1 j.2 j.3 c.args.self.now j.4 c.args.clean j.5 c.commit.new.self.committed done.ok c.commit.new.self.account done.account
+    true c.requires.closing
     ∙ ap (λ (xs : List ℤ). length xs) (sym c.cells-cells.ensures)
 
 pub returns : goal.returns
@@ -32,6 +33,8 @@ returns c = record {
       } in
       subst (λ (x : Runner). Makes p plan input first old.ledger.committed x c.group.result) (sym c.group.ensures.kept)
       (subst (λ (x : Group). Makes p plan input first old.ledger.committed next x) (sym c.group.ensures.group)
-      (judged_closed p plan input first old v c.args.clean j c.commit.new.self.committed done.ok c.commit.new.self.account done.account c.commit.new.self.waiting done.waiting c.changes.new.self
-      c.count-number.result c.count-number.ensures.value c.in_ok-sets.sets (c.in_ok-sets.ensures.sets ∙ ap (changes_but old.known.locals old.known.cells) c.cells-cells.ensures) c.requires.closing old.verdicts));
+      (judged_closed p plan input first old v c.args.clean j c.commit.new.self.committed done.ok c.commit.new.self.account done.account
+      c.commit.new.self.waiting done.waiting c.changes.new.self
+      c.count-number.result c.count-number.ensures.value c.in_ok-sets.sets (c.in_ok-sets.ensures.sets
+      ∙ ap (changes_but old.known.locals old.known.cells) c.cells-cells.ensures) c.requires.closing old.verdicts));
 }

@@ -18,7 +18,8 @@ commit-requires g c =
         s.1,
         s.2,
         s.3,
-        judged s.0 s.1 s.2 s.3 c.args.self.now s.5.kept c.current.new.self c.in_ok-verdicts.ensures.kept c.in_ok-verdicts.verdicts c.next.new.self u c.in-Clean.ensures.key c.in-Clean.ensures.given c.in-Clean.clean c.in-Clean.ensures.verdict,
+        judged s.0 s.1 s.2 s.3 c.args.self.now s.5.kept c.current.new.self c.in_ok-verdicts.ensures.kept c.in_ok-verdicts.verdicts c.next.new.self u
+            c.in-Clean.ensures.key c.in-Clean.ensures.given c.in-Clean.clean c.in-Clean.ensures.verdict,
       );
     }
 
@@ -32,7 +33,8 @@ again-requires g c =
         s.1,
         s.2,
         s.3,
-        unclean s.0 s.1 s.2 s.3 c.args.self.now s.5.kept c.current.new.self c.in_ok-verdicts.ensures.kept c.in_ok-verdicts.verdicts c.next.new.self u c.in-Unclean.ensures.key c.in-Unclean.ensures.given c.in-Unclean.ensures.verdict.0 c.in-Unclean.ensures.verdict.1,
+        unclean s.0 s.1 s.2 s.3 c.args.self.now s.5.kept c.current.new.self c.in_ok-verdicts.ensures.kept c.in_ok-verdicts.verdicts c.next.new.self u
+            c.in-Unclean.ensures.key c.in-Unclean.ensures.given c.in-Unclean.ensures.verdict.0 c.in-Unclean.ensures.verdict.1,
       );
     }
 
@@ -42,7 +44,8 @@ returns-in-Clean g c = record {
       (λ group h p plan input first n s.
       let u = c.in_ok-verdicts.ensures.verdicts p plan input first n s in
       subst (λ (x : Runner). Makes p plan input first x.ledger.committed c.commit.new.self group) c.in_ok-verdicts.ensures.kept
-      (h p plan input first (judged p plan input first c.args.self.now s.kept c.current.new.self c.in_ok-verdicts.ensures.kept c.in_ok-verdicts.verdicts c.next.new.self u c.in-Clean.ensures.key c.in-Clean.ensures.given c.in-Clean.clean c.in-Clean.ensures.verdict)))
+      (h p plan input first (judged p plan input first c.args.self.now s.kept c.current.new.self c.in_ok-verdicts.ensures.kept c.in_ok-verdicts.verdicts
+      c.next.new.self u c.in-Clean.ensures.key c.in-Clean.ensures.given c.in-Clean.clean c.in-Clean.ensures.verdict)))
       c.commit.ensures.made;
 }
 
@@ -52,6 +55,7 @@ returns-in-Unclean g c = record {
       (λ group h p plan input first n s.
       let u = c.in_ok-verdicts.ensures.verdicts p plan input first n s in
       subst (λ (x : Runner). Makes p plan input first x.ledger.committed c.again.new.self group) c.in_ok-verdicts.ensures.kept
-      (h p plan input first (unclean p plan input first c.args.self.now s.kept c.current.new.self c.in_ok-verdicts.ensures.kept c.in_ok-verdicts.verdicts c.next.new.self u c.in-Unclean.ensures.key c.in-Unclean.ensures.given c.in-Unclean.ensures.verdict.0 c.in-Unclean.ensures.verdict.1)))
+      (h p plan input first (unclean p plan input first c.args.self.now s.kept c.current.new.self c.in_ok-verdicts.ensures.kept c.in_ok-verdicts.verdicts
+      c.next.new.self u c.in-Unclean.ensures.key c.in-Unclean.ensures.given c.in-Unclean.ensures.verdict.0 c.in-Unclean.ensures.verdict.1)))
       c.again.ensures.made;
 }

@@ -10,4 +10,5 @@ returns c =
     let place = c.self.inside.place in
     let within = c.self.invariant.0 in
     subst (λ (line : ℕ). DifferFirst c.args.self.now.log (take c.args.self.now.place c.args.self.now.log) line) (sym c.line_behind.ensures)
-    (subst (λ (v : Compared). DifferFirst v.log (take v.place v.log) (line_behind (take place log))) c.self.view_is (more_behind log place (omega (arith, within, c.if-self.false))))
+    (subst (λ (v : Compared). DifferFirst v.log (take v.place v.log) (line_behind (take place log))) c.self.view_is
+    (more_behind log place (omega (arith, within, c.if-self.false))))

@@ -4,4 +4,5 @@ use Rattle.dp_check.proofs.NamesLemmas.{shown}
 use Rattle.dp_check.proofs.names.Names.keep.Goals as goal
 
 pub returns : goal.returns
-returns c = ap (λ l. map shown l) c.truncate.ensures.entries ∙ sym (take-map shown c.args.count c.self.inside.meanings.entries) ∙ ap (take c.args.count) c.self.view_is
+returns c = ap (λ l. map shown l) c.truncate.ensures.entries ∙ sym (take-map shown c.args.count c.self.inside.meanings.entries)
+    ∙ ap (take c.args.count) c.self.view_is

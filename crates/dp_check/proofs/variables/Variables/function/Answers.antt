@@ -10,4 +10,5 @@ pub returns-in_ok-locals-in-Function : goal.returns-in_ok-locals-in-Function
 returns-in_ok-locals-in-Function c =
     let f = c.in-Function in
     let named = c.in_ok-parameters-in-Function.ensures ∙ (λ i. with_variables c.args.self.now (locals_of Outer (map Local (c.as_slice.ensures i)))) in
-    rw f.is (c.in_ok-locals-in-Function.ensures ∙ (λ i. with_variables (named i) (locals_of Outer (parts_all (c.as_slice-in-Function.ensures i)))) ∙ sym (tables.function_variables c.args.self.now f.params f.body))
+    rw f.is (c.in_ok-locals-in-Function.ensures ∙ (λ i. with_variables (named i) (locals_of Outer (parts_all (c.as_slice-in-Function.ensures i))))
+    ∙ sym (tables.function_variables c.args.self.now f.params f.body))

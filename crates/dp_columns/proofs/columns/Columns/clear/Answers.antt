@@ -9,4 +9,5 @@ pub returns : goal.returns
 returns c =
     let told = c.self.inside.told in
     let loads = c.clear_events.ensures ∙ ap (λ (n : ℕ). replicate n no_events) (c.self.invariant ∙ sym (length-map told kind_of)) in
-    kept_nothing (map kind_of told) c.clear_columns.new.told c.clear_events.new.loads c.clear_columns.ensures loads ∙ ap (λ (k : Columned). nothing_kept k.kinds) c.self.view_is
+    kept_nothing (map kind_of told) c.clear_columns.new.told c.clear_events.new.loads c.clear_columns.ensures loads
+    ∙ ap (λ (k : Columned). nothing_kept k.kinds) c.self.view_is

@@ -11,9 +11,12 @@ returns-in-Some-clause-ok c =
     let at = c.in-Some.ensures.value in
     let fits : SFits w64 c.args.value = search rules in
     let same = ap (λ v. c.in-Some.column.now.values ++ v ∷ []) (to_z-of_z w64 c.args.value fits) in
-    on_ok_weaker c.push.result (λ e. value_put c.self.inside.told c.self.inside.loads c.args.place c.in-Some.column.now at c.args.self.now c.self.view_is c.push.new.self c.args.value c.requires (e ∙ same)) c.push.ensures.ok
+    on_ok_weaker c.push.result (λ e. value_put c.self.inside.told c.self.inside.loads c.args.place c.in-Some.column.now at c.args.self.now c.self.view_is
+    c.push.new.self c.args.value c.requires (e ∙ same)) c.push.ensures.ok
 
 pub returns-in-Some-clause-err : goal.returns-in-Some-clause-err
 returns-in-Some-clause-err c =
     let at = c.in-Some.ensures.value in
-    on_err_weaker c.push.result (λ e. same_column c.self.inside.told c.self.inside.loads c.args.place c.in-Some.column.now at _ (λ k. record { kind = c.in-Some.column.now.kind; values = e k; elements = c.in-Some.column.now.elements; blocks = c.in-Some.column.now.blocks }) ∙ c.self.view_is) c.push.ensures.err
+    on_err_weaker c.push.result (λ e. same_column c.self.inside.told c.self.inside.loads c.args.place c.in-Some.column.now at _
+    (λ k. record { kind = c.in-Some.column.now.kind; values = e k; elements = c.in-Some.column.now.elements; blocks = c.in-Some.column.now.blocks })
+    ∙ c.self.view_is) c.push.ensures.err

@@ -26,4 +26,5 @@ pub returns : goal.returns
 returns c =
     let e = c.self.inside in
     let found = ap (λ xs. slice_get xs c.args.mark.at) (sym c.as_slice-counts.ensures) ∙ c.count_at.ensures in
-    next_is e.counts e.settled e.pairs c.args.self.now c.self.view_is c.self.invariant c.args.mark c.requires c.count_at.result found c.end_of-to.result c.part.result c.end_of-to.ensures c.part.ensures
+    next_is e.counts e.settled e.pairs c.args.self.now c.self.view_is c.self.invariant c.args.mark c.requires c.count_at.result found c.end_of-to.result
+    c.part.result c.end_of-to.ensures c.part.ensures

@@ -10,4 +10,6 @@ pub returns-clause-ok : goal.returns-clause-ok
 returns-clause-ok c =
     let fits : SFits w64 c.args.value = search rules in
     let e = c.self.inside in
-    on_ok_weaker c.put.result (λ put. event_put e.counts e.settled e.pairs c.args.self.now c.self.view_is c.self.invariant c.put.new.self (record { cell = c.args.cell; value = c.args.value }) (put ∙ ap (λ v. e.pairs ++ record { cell = c.args.cell; value = v } ∷ []) (to_z-of_z w64 c.args.value fits))) c.put.ensures.ok
+    on_ok_weaker c.put.result (λ put. event_put e.counts e.settled e.pairs c.args.self.now c.self.view_is c.self.invariant c.put.new.self
+    (record { cell = c.args.cell; value = c.args.value }) (put ∙ ap (λ v. e.pairs ++ record { cell = c.args.cell; value = v } ∷ [])
+    (to_z-of_z w64 c.args.value fits))) c.put.ensures.ok

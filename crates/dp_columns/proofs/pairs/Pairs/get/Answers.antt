@@ -17,6 +17,8 @@ returns c =
     let cells = c.self.inside.cells in
     let values = c.self.inside.values in
     let within : c.args.at < length cells = omega (arith, ap length c.as_slice-values.ensures, c.if-at-values.false, c.self.invariant) in
-    let cell = ap (λ (xs : List ℕ). slice_get xs c.args.at) (sym c.as_slice.ensures) ∙ slice_get-get_or c.as_slice.result.now c.args.at 0 (omega (arith, within, ap length c.as_slice.ensures)) in
+    let cell = ap (λ (xs : List ℕ). slice_get xs c.args.at) (sym c.as_slice.ensures) ∙ slice_get-get_or c.as_slice.result.now c.args.at 0
+    (omega (arith, within, ap length c.as_slice.ensures)) in
     let value = ap (λ xs. slice_get xs c.args.at) (sym c.as_slice-values.ensures) ∙ c.value_at.ensures in
-    ap (λ pairs. slice_get pairs c.args.at) (sym c.self.view_is) ∙ pair_at cells values c.args.at _ _ cell value ∙ ap (λ v. Some (record { cell = slice_index_or c.as_slice.result.now c.args.at 0; value = v })) (sym (to_z-of_z w64 c.value_at.result fits))
+    ap (λ pairs. slice_get pairs c.args.at) (sym c.self.view_is) ∙ pair_at cells values c.args.at _ _ cell value
+    ∙ ap (λ v. Some (record { cell = slice_index_or c.as_slice.result.now c.args.at 0; value = v })) (sym (to_z-of_z w64 c.value_at.result fits))

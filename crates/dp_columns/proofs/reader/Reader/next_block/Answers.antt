@@ -51,4 +51,5 @@ returns-in-None-clause-took c =
     let there = ap (λ ms. slice_get ms c.args.place) (sym c.as_slice.ensures) ∙ c.mark_at-mark.ensures in
     let kind = block_seen r.told.now r.loads.now r.told_marks r.loads_marks c.args.place column c.column_at.ensures c.args.self.now c.self.view_is c.requires in
     let long = ap (λ k. length (told_by k column)) kind ∙ length-map column.blocks.ended block_told in
-    told_none_left r.told.now r.loads.now r.told_marks r.loads_marks c.args.place column c.column_at.ensures mark there c.args.self.now c.self.view_is (omega (arith, long, c.in-None.ensures))
+    told_none_left r.told.now r.loads.now r.told_marks r.loads_marks c.args.place column c.column_at.ensures mark there c.args.self.now c.self.view_is
+    (omega (arith, long, c.in-None.ensures))

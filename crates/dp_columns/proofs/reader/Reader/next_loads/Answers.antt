@@ -35,4 +35,5 @@ returns-in-None-clause-took c =
     let events = c.events_at.result.now in
     let mark = c.mark_at-mark.result in
     let there = ap (λ ms. slice_get ms c.args.place) (sym c.as_slice.ensures) ∙ c.mark_at-mark.ensures in
-    loads_none_left r.told.now r.loads.now r.told_marks r.loads_marks c.args.place events c.events_at.ensures mark there c.args.self.now c.self.view_is c.in-None.ensures
+    loads_none_left r.told.now r.loads.now r.told_marks r.loads_marks c.args.place events c.events_at.ensures mark there c.args.self.now
+    c.self.view_is c.in-None.ensures

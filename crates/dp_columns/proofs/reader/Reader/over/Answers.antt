@@ -13,5 +13,10 @@ invariant_of-result c =
 pub returns : goal.returns
 returns c =
     left_all c.as_slice-told.result.now c.as_slice-loads.result.now c.begin.new.marks c.begin-2.new.marks c.in_ok-begin.ensures c.in_ok-begin-2.ensures
-    ∙ (λ k. record { kinds = map kind_of (c.as_slice-told.ensures k); told = map told_of (c.as_slice-told.ensures k); loads = map (λ (g : Grouped). g.ended) (c.as_slice-loads.ensures k) })
+    ∙ (λ k. record {
+      kinds = map kind_of (c.as_slice-told.ensures k);
+      told = map told_of (c.as_slice-told.ensures k);
+      loads = map (λ (g : Grouped).
+          g.ended) (c.as_slice-loads.ensures k);
+    })
     ∙ (λ k. record { kinds = (c.columns.view_is k).kinds; told = (c.columns.view_is k).told; loads = (c.columns.view_is k).loads })

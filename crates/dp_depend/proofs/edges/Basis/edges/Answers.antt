@@ -12,12 +12,16 @@ use Rattle.dp_depend.proofs.edges.Basis.edges.Goals as goal
 pub loop-d-preserved : goal.loop-d-preserved
 loop-d-preserved c =
     let s = c.args.self in let all = c.args.all.now in let i = c.loop-d.d-index in
-    let among : List Node → List Edge = λ l. edges_among s.p.now s.region s.shown.counts.now s.shown.flows.now s.shown.first s.shown.rate c.args.chosen.now all l in
+    let among : List Node → List Edge = λ l. edges_among s.p.now s.region s.shown.counts.now s.shown.flows.now s.shown.first s.shown.rate
+    c.args.chosen.now all l in
     let below : c.loop-d.d-index < length c.args.all.now = omega arith in
     joins_more (among all) c.loop-d.edges c.put_from.new.out (among (drop i all))
-    (edges_from s.p.now s.region s.shown.counts.now s.shown.flows.now s.shown.first s.shown.rate (is_assumed c.args.chosen.now c.d-item.result) c.d-item.result all) (among (drop (i + 1) all))
-    c.loop-d.invariant (among-next s.p.now s.region s.shown.counts.now s.shown.flows.now s.shown.first s.shown.rate c.args.chosen.now all all i c.d-item.result below c.d-item.is)
-    (c.in_ok-put_from.ensures ∙ ap (λ (b : Bool). c.loop-d.edges ++ edges_from s.p.now s.region s.shown.counts.now s.shown.flows.now s.shown.first s.shown.rate b c.d-item.result all) c.is_assumed.ensures)
+    (edges_from s.p.now s.region s.shown.counts.now s.shown.flows.now s.shown.first s.shown.rate (is_assumed c.args.chosen.now c.d-item.result) c.d-item.result
+    all) (among (drop (i + 1) all))
+    c.loop-d.invariant (among-next s.p.now s.region s.shown.counts.now s.shown.flows.now s.shown.first s.shown.rate c.args.chosen.now all all i
+    c.d-item.result below c.d-item.is)
+    (c.in_ok-put_from.ensures ∙ ap (λ (b : Bool). c.loop-d.edges ++ edges_from s.p.now s.region s.shown.counts.now s.shown.flows.now s.shown.first s.shown.rate
+    b c.d-item.result all) c.is_assumed.ensures)
 
 pub put_from-requires-clause-d : goal.put_from-requires-clause-d
 put_from-requires-clause-d c =
@@ -27,6 +31,8 @@ put_from-requires-clause-d c =
 pub returns : goal.returns
 returns c =
     let s = c.args.self in let all = c.args.all.now in
-    let among : List Node → List Edge = λ l. edges_among s.p.now s.region s.shown.counts.now s.shown.flows.now s.shown.first s.shown.rate c.args.chosen.now all l in
+    let among : List Node → List Edge = λ l. edges_among s.p.now s.region s.shown.counts.now s.shown.flows.now s.shown.first s.shown.rate
+    c.args.chosen.now all l in
     joins_all (among all) c.loop-d.edges (among (drop c.loop-d.d-index all)) c.loop-d.invariant
-    (at_drop_all among all c.loop-d.d-index (omega arith) ∙ among-none s.p.now s.region s.shown.counts.now s.shown.flows.now s.shown.first s.shown.rate c.args.chosen.now all)
+    (at_drop_all among all c.loop-d.d-index (omega arith) ∙ among-none s.p.now s.region s.shown.counts.now s.shown.flows.now s.shown.first s.shown.rate
+    c.args.chosen.now all)

@@ -13,7 +13,8 @@ returns-then-len-lt-LISTED-clause-ok c =
     subst (CountsAgain c.args.number c.args.end c.args.self.now) (sym c.begin_epoch.ensures)
     (record {
       report = λ region n again f e w.
-          (c.in_ok-count_recovered.ensures.counted c.args.self.now.why region n again f e (subst (λ (told : Option Cause). Explains c.args.self.now.why again told (f c.args.number)) (sym c.cause_of-cause.ensures) w));
+          (c.in_ok-count_recovered.ensures.counted c.args.self.now.why region n again f e
+          (subst (λ (told : Option Cause). Explains c.args.self.now.why again told (f c.args.number)) (sym c.cause_of-cause.ensures) w));
       why = refl;
       views = ap (λ (t : Bool). if t then behind else None) (sym (lt-ltb (length c.count_recovered.new.report.recovered) 1000 few));
     })
@@ -24,7 +25,8 @@ returns-else-len-lt-LISTED-clause-ok c =
     let behind : Option Viewed = option_map seen_again c.args.self.now.views in
     record {
       report = λ region n again f e w.
-          (c.in_ok-count_recovered.ensures.counted c.args.self.now.why region n again f e (subst (λ (told : Option Cause). Explains c.args.self.now.why again told (f c.args.number)) (sym c.cause_of-cause.ensures) w));
+          (c.in_ok-count_recovered.ensures.counted c.args.self.now.why region n again f e
+          (subst (λ (told : Option Cause). Explains c.args.self.now.why again told (f c.args.number)) (sym c.cause_of-cause.ensures) w));
       why = refl;
       views = ap (λ (t : Bool). if t then behind else None) (sym (le-ltb (length c.count_recovered.new.report.recovered) 1000 many));
     }

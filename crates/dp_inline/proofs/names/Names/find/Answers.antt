@@ -1,7 +1,7 @@
 use Rattle.std.proofs.Common.{◌≡◌, ◌<◌, ◌+◌, ◌-◌, ℕ, List, Option, Some, sym, ap, ◌∙◌, length, take, get_or, arith}
 use Rattle.dp_calls.specs.Renaming.{named_in}
 use Rattle.dp_inline.specs.declared.names.Named.{Named}
-use Rattle.dp_inline.specs.Named.{names_of}
+use Rattle.dp_inline.specs.Named.{renamed_names}
 use Rattle.dp_inline.proofs.NamesLemmas.{found_before, found_here, found_not}
 use Rattle.dp_inline.proofs.names.Names.find.Goals as goal
 
@@ -9,7 +9,7 @@ abbrev none : Named
 none = record { source = 0; target = 0 }
 
 abbrev among : List Named → ℕ → Option ℕ
-among rows x = named_in (names_of rows) x
+among rows x = named_in (renamed_names rows) x
 
 pub returns-then-named-source : goal.returns-then-named-source
 returns-then-named-source c =

@@ -17,15 +17,18 @@ returns-in-NoMemory c = record {
 
 pub returns-in-Going : goal.returns-in-Going
 returns-in-Going c = record {
-  came = λ e b at sent none. c.decide.ensures.came e b NetGoing (subst (λ (s : BatchStatus). AsStatus s NetGoing) (sym c.in-Going.is ∙ c.status.ensures) refl) at sent none;
+  came = λ e b at sent none. c.decide.ensures.came e b NetGoing (subst (λ (s : BatchStatus). AsStatus s NetGoing) (sym c.in-Going.is
+      ∙ c.status.ensures) refl) at sent none;
 }
 
 pub returns-in-Closing : goal.returns-in-Closing
 returns-in-Closing c = record {
-  came = λ e b at sent none. c.decide-in-Closing.ensures.came e b NetClosing (subst (λ (s : BatchStatus). AsStatus s NetClosing) (sym c.in-Closing.is ∙ c.status.ensures) refl) at sent none;
+  came = λ e b at sent none. c.decide-in-Closing.ensures.came e b NetClosing (subst (λ (s : BatchStatus). AsStatus s NetClosing) (sym c.in-Closing.is
+      ∙ c.status.ensures) refl) at sent none;
 }
 
 pub returns-in-Void : goal.returns-in-Void
 returns-in-Void c = record {
-  came = λ e b at sent none. c.decide-in-Void.ensures.came e b NetVoid (subst (λ (s : BatchStatus). AsStatus s NetVoid) (sym c.in-Void.is ∙ c.status.ensures) refl) at sent none;
+  came = λ e b at sent none. c.decide-in-Void.ensures.came e b NetVoid (subst (λ (s : BatchStatus). AsStatus s NetVoid) (sym c.in-Void.is
+      ∙ c.status.ensures) refl) at sent none;
 }

@@ -20,25 +20,29 @@ loop-place-preserved c = (
   λ e b came by at. (
       let more : suc c.loop-place.place ≡ c.loop-place.place + 1 = omega arith in
       subst (λ (i : ℕ). Within e b c.args.iterations i c.decide.new.self.left c.decide.new.self.cells c.decide.new.readers (cleans c.decide.new.told)) more
-      (c.in-Goes.ensures.comes e b c.args.iterations came by (omega (arith, c.loop-place-test.true, c.loop-place.auto.place-end)) (c.loop-place.invariant.3 e b came by at))),
+      (c.in-Goes.ensures.comes e b c.args.iterations came by (omega (arith, c.loop-place-test.true, c.loop-place.auto.place-end))
+      (c.loop-place.invariant.3 e b came by at))),
 )
 
 pub returns-in-Closes : goal.returns-in-Closes
 returns-in-Closes c = record {
   comes = λ e b came by at.
-      c.in-Closes.ensures.comes e b c.args.iterations came by (omega (arith, c.loop-place-test.true, c.loop-place.auto.place-end)) (c.loop-place.invariant.3 e b came by at);
+      c.in-Closes.ensures.comes e b c.args.iterations came by (omega (arith, c.loop-place-test.true, c.loop-place.auto.place-end))
+      (c.loop-place.invariant.3 e b came by at);
 }
 
 pub returns-in-Unclean : goal.returns-in-Unclean
 returns-in-Unclean c = record {
   comes = λ e b came by at.
-      c.in-Unclean.ensures.comes e b c.args.iterations came by (omega (arith, c.loop-place-test.true, c.loop-place.auto.place-end)) (c.loop-place.invariant.3 e b came by at);
+      c.in-Unclean.ensures.comes e b c.args.iterations came by (omega (arith, c.loop-place-test.true, c.loop-place.auto.place-end))
+      (c.loop-place.invariant.3 e b came by at);
 }
 
 pub returns-in-NoMemory : goal.returns-in-NoMemory
 returns-in-NoMemory c = record {
   comes = λ e b came by at.
-      c.in-NoMemory.ensures.comes e b c.args.iterations came by (omega (arith, c.loop-place-test.true, c.loop-place.auto.place-end)) (c.loop-place.invariant.3 e b came by at);
+      c.in-NoMemory.ensures.comes e b c.args.iterations came by (omega (arith, c.loop-place-test.true, c.loop-place.auto.place-end))
+      (c.loop-place.invariant.3 e b came by at);
 }
 
 pub returns : goal.returns

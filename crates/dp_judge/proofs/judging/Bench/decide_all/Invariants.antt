@@ -12,4 +12,5 @@ invariant-loop-place l =
     × IsUngiven l.told
     × (l.place ≤ l.iterations)
     × ((e : LeanEpoch) (b : ℕ) → CameIn e b l.iterations l.stages → JudgesBy e l.tables →
-    Within e b l.iterations 0 l.initial.self.left l.initial.self.cells l.initial.readers (cleans l.initial.told) → Within e b l.iterations l.place l.self.left l.self.cells l.readers (cleans l.told))
+    Within e b l.iterations 0 l.initial.self.left l.initial.self.cells l.initial.readers (cleans l.initial.told) →
+    Within e b l.iterations l.place l.self.left l.self.cells l.readers (cleans l.told))

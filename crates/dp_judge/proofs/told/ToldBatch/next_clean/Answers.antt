@@ -1,7 +1,7 @@
 use Rattle.std.proofs.Common.{refl, sym, ap, ◌∙◌, inl, inr, ◌∷◌, ◌++◌}
 use Rattle.dp_semantics.specs.EpochVerdicts.{Carried}
 use Rattle.dp_judge.specs.declared.verdict.Verdict.TheVariants.{Clean}
-use Rattle.dp_judge.specs.Decided.{cleans, ending, left_to_give}
+use Rattle.dp_judge.specs.Decided.{cleans, end_verdicts, left_to_give}
 use Rattle.dp_judge.proofs.Giving.{next_there}
 use Rattle.dp_judge.proofs.told.ToldBatch.next_clean.Goals as goal
 
@@ -18,6 +18,6 @@ returns-in-Ok c =
       first = Clean c.in-Ok.clean;
       rest = left_to_give new;
       left =
-          (λ i. (c.pass.ensures.next ∙ ap (λ (v : Carried). Clean v ∷ cleans new) (sym c.in-Ok.ensures)) i ++ ending (sym c.pass.ensures.end i));
+          (λ i. (c.pass.ensures.next ∙ ap (λ (v : Carried). Clean v ∷ cleans new) (sym c.in-Ok.ensures)) i ++ end_verdicts (sym c.pass.ensures.end i));
       given = inl (refl, refl);
     }

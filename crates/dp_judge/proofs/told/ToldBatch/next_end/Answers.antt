@@ -1,7 +1,7 @@
 use Rattle.std.proofs.Common.{refl, ap, ◌∙◌, inl, List, [], ◌++◌}
 use Rattle.dp_judge.specs.declared.verdict.Verdict.{Verdict}
 use Rattle.dp_judge.specs.declared.verdict.Verdict.TheVariants.{Unclean, NoMemory}
-use Rattle.dp_judge.specs.Decided.{ending}
+use Rattle.dp_judge.specs.Decided.{end_verdicts}
 use Rattle.dp_judge.specs.declared.told.ToldEnd.{ToldEnd}
 use Rattle.dp_judge.specs.declared.told.ToldEnd.TheVariants.{Over}
 use Rattle.dp_judge.proofs.Giving.{none_clean}
@@ -10,7 +10,7 @@ use Rattle.dp_judge.proofs.told.ToldBatch.next_end.Goals as goal
 pub returns-in-Over : goal.returns-in-Over
 returns-in-Over c =
     let old = c.args.self.now in (
-      ap (λ (vs : List Verdict). vs ++ ending old.end) (none_clean old c.requires) ∙ ap (λ (t : ToldEnd). ending t) c.in-Over.is,
+      ap (λ (vs : List Verdict). vs ++ end_verdicts old.end) (none_clean old c.requires) ∙ ap (λ (t : ToldEnd). end_verdicts t) c.in-Over.is,
       ap (λ (vs : List Verdict). vs ++ []) (none_clean (record old { end = Over }) c.requires),
     )
 
@@ -20,7 +20,7 @@ returns-in-Unclean c =
     record {
       first = Unclean;
       rest = [];
-      left = ap (λ (vs : List Verdict). vs ++ ending old.end) (none_clean old c.requires) ∙ ap (λ (t : ToldEnd). ending t) c.in-Unclean.is;
+      left = ap (λ (vs : List Verdict). vs ++ end_verdicts old.end) (none_clean old c.requires) ∙ ap (λ (t : ToldEnd). end_verdicts t) c.in-Unclean.is;
       given = inl (refl, ap (λ (vs : List Verdict). vs ++ []) (none_clean (record old { end = Over }) c.requires));
     }
 
@@ -30,6 +30,6 @@ returns-in-NoMemory c =
     record {
       first = NoMemory;
       rest = [];
-      left = ap (λ (vs : List Verdict). vs ++ ending old.end) (none_clean old c.requires) ∙ ap (λ (t : ToldEnd). ending t) c.in-NoMemory.is;
+      left = ap (λ (vs : List Verdict). vs ++ end_verdicts old.end) (none_clean old c.requires) ∙ ap (λ (t : ToldEnd). end_verdicts t) c.in-NoMemory.is;
       given = inl (refl, ap (λ (vs : List Verdict). vs ++ []) (none_clean (record old { end = Over }) c.requires));
     }

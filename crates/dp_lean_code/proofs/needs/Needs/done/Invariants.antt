@@ -7,5 +7,7 @@ use Rattle.dp_lean_code.proofs.needs.Needs.done.Given as goal
 
 abbrev pub invariant-loop-place : goal.invariant-loop-place
 invariant-loop-place l =
-    l.rows ++ map (λ stage. map (done_among l.self.program.now l.self.plan.now (accesses_in l.self.accesses.now) stage) (numbers_from 0 (length l.self.program.now.vars))) (numbers_from (1 + l.place) (last l.self.plan.now - l.place))
-    ≡ map (λ stage. map (done_among l.self.program.now l.self.plan.now (accesses_in l.self.accesses.now) stage) (numbers_from 0 (length l.self.program.now.vars))) (numbers_from 1 (last l.self.plan.now))
+    l.rows ++ map (λ stage. map (done_among l.self.program.now l.self.plan.now (accesses_in l.self.accesses.now) stage)
+    (numbers_from 0 (length l.self.program.now.vars))) (numbers_from (1 + l.place) (last l.self.plan.now - l.place))
+    ≡ map (λ stage. map (done_among l.self.program.now l.self.plan.now (accesses_in l.self.accesses.now) stage)
+    (numbers_from 0 (length l.self.program.now.vars))) (numbers_from 1 (last l.self.plan.now))

@@ -9,4 +9,5 @@ loop-var-preserved c =
     let many = c.in_ok-count.ensures in let here = c.loop-var-test.true in
     let below : c.loop-var.var < length c.args.self.program.now.vars = omega (arith, here, many) in
     let from : c.loop-var.var ≡ 0 + c.loop-var.var = omega arith in
-    number_next (done_among p plan all c.args.stage) c.loop-var.row _ _ _ 0 c.loop-var.var (length p.vars) below (c.is_done_to.ensures ∙ ap (done_among p plan all c.args.stage) from) c.in_ok-push.ensures.ok c.loop-var.invariant
+    number_next (done_among p plan all c.args.stage) c.loop-var.row _ _ _ 0 c.loop-var.var (length p.vars) below (c.is_done_to.ensures
+    ∙ ap (done_among p plan all c.args.stage) from) c.in_ok-push.ensures.ok c.loop-var.invariant

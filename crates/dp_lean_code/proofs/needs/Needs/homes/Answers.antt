@@ -9,4 +9,5 @@ loop-var-preserved c =
     let many = c.in_ok-count.ensures in let here = c.loop-var-test.true in
     let below : c.loop-var.var < length c.args.self.program.now.vars = omega (arith, here, many) in
     let from : c.loop-var.var ≡ 0 + c.loop-var.var = omega arith in
-    number_next (private_home p plan all) c.loop-var.homes _ _ _ 0 c.loop-var.var (length p.vars) below (c.private_home.ensures ∙ ap (private_home p plan all) from) c.in_ok-push.ensures.ok c.loop-var.invariant
+    number_next (private_home p plan all) c.loop-var.homes _ _ _ 0 c.loop-var.var (length p.vars) below (c.private_home.ensures
+    ∙ ap (private_home p plan all) from) c.in_ok-push.ensures.ok c.loop-var.invariant

@@ -19,7 +19,8 @@ loop-statement-preserved c =
     c.statement-item.is ∙ ap (λ (xs : List Stmt). get_or xs i x) same in
     elim c.if-is_region.branch [
       | then-is_region+in_ok-ask+in_ok-put_inner w ↦
-          region_next p plan homes all i x below is c.loop-statement.blocks whole c.loop-statement.invariant _ c.if-is_region.blocks (sym c.is_region.ensures ∙ w.if-is_region.true)
+          region_next p plan homes all i x below is c.loop-statement.blocks whole c.loop-statement.invariant _ c.if-is_region.blocks (sym c.is_region.ensures
+          ∙ w.if-is_region.true)
           w.in_ok-ask.ensures (w.blocks-is ∙ w.in_ok-put_inner.ensures)
       | else-is_region w ↦
           subst (λ (out : List ℕ). out ++ in_region p plan homes (drop (i + 1) all) ≡ whole) (sym w.blocks-is)
@@ -29,5 +30,6 @@ loop-statement-preserved c =
 pub returns : goal.returns
 returns c =
     let p = c.args.self.program.now in let plan = c.args.self.plan.now in let homes = c.args.self.homes.now in
-    let over : length c.args.self.program.now.main ≤ c.loop-statement.statement-index = let e = ap length c.as_slice-statement-items.ensures in omega (arith, e) in
+    let over : length c.args.self.program.now.main ≤ c.loop-statement.statement-index = let e = ap length c.as_slice-statement-items.ensures in
+    omega (arith, e) in
     region_over p plan homes (drop c.loop-statement.statement-index p.main) c.loop-statement.blocks _ c.loop-statement.invariant (drop_of_length-le p.main over)

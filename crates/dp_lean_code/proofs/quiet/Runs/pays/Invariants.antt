@@ -5,4 +5,5 @@ use Rattle.dp_lean_code.proofs.quiet.Runs.pays.Given as goal
 
 abbrev pub invariant-loop-statement : goal.invariant-loop-statement
 invariant-loop-statement l =
-    list_any (gains_in l.self.program.now l.self.plan.now l.self.homes.now l.stage) (drop l.statement-index l.block) ≡ list_any (gains_in l.self.program.now l.self.plan.now l.self.homes.now l.stage) l.block
+    list_any (gains_in l.self.program.now l.self.plan.now l.self.homes.now l.stage) (drop l.statement-index l.block) ≡ list_any
+    (gains_in l.self.program.now l.self.plan.now l.self.homes.now l.stage) l.block

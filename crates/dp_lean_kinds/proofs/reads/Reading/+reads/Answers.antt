@@ -7,7 +7,8 @@ use Rattle.dp_lean_code.specs.steps.Looked.{known_of}
 use Rattle.dp_lean_code.proofs.WalkAppended.{take_drop}
 use Rattle.dp_lean_kinds.specs.steps.Read.{site_when, leaf_read, choice_read, block_read, read, list_read}
 use Rattle.dp_lean_kinds.proofs.ReadForms.{all_read, read-Assign, read-Store, read-Print, read-Break, read-Call, read-Region}
-use Rattle.dp_lean_kinds.proofs.ReadAppended.{closed, if_reached, if_taken, if_passed, if_dropped, loop_reached, loop_dropped, nothing_more, one_passed, one_more, block_more, all_done}
+use Rattle.dp_lean_kinds.proofs.ReadAppended.{closed, if_reached, if_taken, if_passed, if_dropped, loop_reached, loop_dropped, nothing_more, one_passed}
+use Rattle.dp_lean_kinds.proofs.ReadAppended.{one_more, block_more, all_done}
 use Rattle.dp_lean_kinds.proofs.reads.Reading.+reads.Goals.{statements-then-count-eq0+in_ok-statement, statements-else-count-eq0+in_ok-block}
 use Rattle.dp_lean_kinds.proofs.reads.Reading.+reads.Goals as goal
 
@@ -16,28 +17,32 @@ statement-returns-in-Assign t c =
     let p = c.args.self.stage.program.now in let plan = c.args.self.stage.plan.now in let s = c.args.self.stage.number in let old = c.args.out.now in
     let k = known_of p plan c.args.self.stage.tables.now s in
     subst (λ (xs : List ℕ). OnOk c.leaf.result (c.leaf.new.out ≡ old ++ xs))
-    (ap (λ (b : Bool). leaf_read p plan s k c.in-Assign.site b) c.does.ensures ∙ sym (read-Assign p plan s k _ _ _) ∙ ap (λ (x : Stmt). read p plan s k x) (sym c.in-Assign.is)) c.leaf.ensures
+    (ap (λ (b : Bool). leaf_read p plan s k c.in-Assign.site b) c.does.ensures ∙ sym (read-Assign p plan s k _ _ _)
+    ∙ ap (λ (x : Stmt). read p plan s k x) (sym c.in-Assign.is)) c.leaf.ensures
 
 pub statement-returns-in-Store : goal.statement-returns-in-Store
 statement-returns-in-Store t c =
     let p = c.args.self.stage.program.now in let plan = c.args.self.stage.plan.now in let s = c.args.self.stage.number in let old = c.args.out.now in
     let k = known_of p plan c.args.self.stage.tables.now s in
     subst (λ (xs : List ℕ). OnOk c.leaf-in-Store.result (c.leaf-in-Store.new.out ≡ old ++ xs))
-    (ap (λ (b : Bool). leaf_read p plan s k c.in-Store.site b) c.does-in-Store.ensures ∙ sym (read-Store p plan s k _ _ _ _) ∙ ap (λ (x : Stmt). read p plan s k x) (sym c.in-Store.is)) c.leaf-in-Store.ensures
+    (ap (λ (b : Bool). leaf_read p plan s k c.in-Store.site b) c.does-in-Store.ensures ∙ sym (read-Store p plan s k _ _ _ _)
+    ∙ ap (λ (x : Stmt). read p plan s k x) (sym c.in-Store.is)) c.leaf-in-Store.ensures
 
 pub statement-returns-in-Print : goal.statement-returns-in-Print
 statement-returns-in-Print t c =
     let p = c.args.self.stage.program.now in let plan = c.args.self.stage.plan.now in let s = c.args.self.stage.number in let old = c.args.out.now in
     let k = known_of p plan c.args.self.stage.tables.now s in
     subst (λ (xs : List ℕ). OnOk c.leaf-in-Print.result (c.leaf-in-Print.new.out ≡ old ++ xs))
-    (ap (λ (b : Bool). leaf_read p plan s k c.in-Print.site b) c.is_judge.ensures ∙ sym (read-Print p plan s k _ _) ∙ ap (λ (x : Stmt). read p plan s k x) (sym c.in-Print.is)) c.leaf-in-Print.ensures
+    (ap (λ (b : Bool). leaf_read p plan s k c.in-Print.site b) c.is_judge.ensures ∙ sym (read-Print p plan s k _ _)
+    ∙ ap (λ (x : Stmt). read p plan s k x) (sym c.in-Print.is)) c.leaf-in-Print.ensures
 
 pub statement-returns-in-Break : goal.statement-returns-in-Break
 statement-returns-in-Break t c =
     let p = c.args.self.stage.program.now in let plan = c.args.self.stage.plan.now in let s = c.args.self.stage.number in let old = c.args.out.now in
     let k = known_of p plan c.args.self.stage.tables.now s in
     subst (λ (xs : List ℕ). OnOk c.put_when.result (c.put_when.new.out ≡ old ++ xs))
-    (ap (λ (b : Bool). site_when b c.in-Break.site) c.reaches-in-Break.ensures ∙ sym (read-Break p plan s k _ _) ∙ ap (λ (x : Stmt). read p plan s k x) (sym c.in-Break.is)) c.put_when.ensures
+    (ap (λ (b : Bool). site_when b c.in-Break.site) c.reaches-in-Break.ensures ∙ sym (read-Break p plan s k _ _)
+    ∙ ap (λ (x : Stmt). read p plan s k x) (sym c.in-Break.is)) c.put_when.ensures
 
 pub statement-returns-in-Call : goal.statement-returns-in-Call
 statement-returns-in-Call t c =
@@ -77,8 +82,10 @@ statement-returns-in_ok-statements-in-true-default-2 t c =
     let is = c.in-If.is ∙ (λ i. tree.If site cond (sym c.as_slice.ensures i) (sym c.as_slice-in-true-default.ensures i)) in
     subst (λ (xs : List ℕ). OnOk c.close.result (c.close.new.out ≡ xs))
     (closed p plan s k site old (all_read p plan s k a ++ all_read p plan s k b) _ _ c.len-start.ensures
-    (c.in_ok-statements-in-true-default-2.ensures ∙ ap (λ (xs : List ℕ). xs ++ all_read p plan s k b) c.in_ok-statements-in-true-default.ensures ∙ append_assoc old (all_read p plan s k a) (all_read p plan s k b))
-    ∙ ap (λ (xs : List ℕ). old ++ xs) (sym (if_reached p plan s k site cond a b (sym c.in-true-default.ensures))) ∙ ap (λ (x : Stmt). old ++ read p plan s k x) (sym is))
+    (c.in_ok-statements-in-true-default-2.ensures ∙ ap (λ (xs : List ℕ). xs ++ all_read p plan s k b) c.in_ok-statements-in-true-default.ensures
+    ∙ append_assoc old (all_read p plan s k a) (all_read p plan s k b))
+    ∙ ap (λ (xs : List ℕ). old ++ xs) (sym (if_reached p plan s k site cond a b (sym c.in-true-default.ensures)))
+    ∙ ap (λ (x : Stmt). old ++ read p plan s k x) (sym is))
     c.close.ensures
 
 pub statement-returns-in-Region : goal.statement-returns-in-Region
@@ -117,12 +124,15 @@ statements-loop-place-preserved t c =
     elim c.if-count-eq0.branch [
       | statements-then-count-eq0+in_ok-statement w ↦
           ap (λ n. c.if-count-eq0.out ++ list_read p plan s k n (drop (i + 1) all)) (w.left-is ∙ none)
-          ∙ one_more p plan s k all i x (omega arith) c.index-all-place.is out whole kept c.if-count-eq0.out (counted ∙ w.if-count-eq0.true) (w.out-is ∙ w.in_ok-statement.ensures)
+          ∙ one_more p plan s k all i x (omega arith) c.index-all-place.is out whole kept c.if-count-eq0.out (counted ∙ w.if-count-eq0.true) (w.out-is
+          ∙ w.in_ok-statement.ensures)
       | statements-else-count-eq0+in_ok-block w ↦
           let some : c.count-count.result ≡ suc (c.count-count.result - 1) = omega arith in
           ap (λ n. c.if-count-eq0.out ++ list_read p plan s k n (drop (i + 1) all)) w.left-is
-          ∙ block_more p plan s k all i x (omega arith) c.index-all-place.is out whole kept c.if-count-eq0.out c.count-count.result (c.count-count.result - 1) counted some
-          (w.out-is ∙ w.in_ok-block.ensures ∙ ap (λ (xs : List Stmt). out ++ block_read p plan s k c.site_of-site.result (take c.count-count.result xs)) (take_drop all i)
+          ∙ block_more p plan s k all i x (omega arith) c.index-all-place.is out whole kept c.if-count-eq0.out c.count-count.result
+          (c.count-count.result - 1) counted some
+          (w.out-is ∙ w.in_ok-block.ensures
+          ∙ ap (λ (xs : List Stmt). out ++ block_read p plan s k c.site_of-site.result (take c.count-count.result xs)) (take_drop all i)
           ∙ ap (λ (q : SiteId). out ++ block_read p plan s k q (take c.count-count.result (drop i all))) c.site_of-site.ensures)
     ]
 
@@ -130,15 +140,18 @@ pub statements-returns : goal.statements-returns
 statements-returns t c =
     let p = c.args.self.stage.program.now in let plan = c.args.self.stage.plan.now in let s = c.args.self.stage.number in let old = c.args.out.now in
     let k = known_of p plan c.args.self.stage.tables.now s in
-    all_done p plan s k c.loop-place.left (drop c.loop-place.place c.args.all.now) c.loop-place.out (old ++ list_read p plan s k zero c.args.all.now) c.loop-place.invariant
+    all_done p plan s k c.loop-place.left (drop c.loop-place.place c.args.all.now) c.loop-place.out (old ++ list_read p plan s k zero c.args.all.now)
+    c.loop-place.invariant
     (drop_of_length-le c.args.all.now (omega arith))
 
 pub statement-returns-in_ok-around-in-While : goal.statement-returns-in_ok-around-in-While
 statement-returns-in_ok-around-in-While t c =
     let p = c.args.self.stage.program.now in let plan = c.args.self.stage.plan.now in let s = c.args.self.stage.number in let old = c.args.out.now in
     let k = known_of p plan c.args.self.stage.tables.now s in
-    c.in_ok-around-in-While.ensures ∙ ap (λ (ys : List Stmt). old ++ choice_read p plan s k c.in-While.site (all_read p plan s k ys)) c.as_slice-then-reaches-2.ensures
-    ∙ ap (λ (xs : List ℕ). old ++ xs) (sym (loop_reached p plan s k _ c.in-While.cond _ [] (sym c.reaches-in-While.ensures ∙ c.if-reaches-2.true)) ∙ ap (λ (x : Stmt). read p plan s k x) (sym c.in-While.is))
+    c.in_ok-around-in-While.ensures ∙ ap (λ (ys : List Stmt). old ++ choice_read p plan s k c.in-While.site (all_read p plan s k ys))
+    c.as_slice-then-reaches-2.ensures
+    ∙ ap (λ (xs : List ℕ). old ++ xs) (sym (loop_reached p plan s k _ c.in-While.cond _ [] (sym c.reaches-in-While.ensures ∙ c.if-reaches-2.true))
+    ∙ ap (λ (x : Stmt). read p plan s k x) (sym c.in-While.is))
 
 pub statement-returns-else-reaches-2 : goal.statement-returns-else-reaches-2
 statement-returns-else-reaches-2 t c =

@@ -1,6 +1,6 @@
 use Rattle.dp_semantics.proofs.Names.{◌≡◌, refl, sym, ap, ◌∙◌, subst, arith, ℕ, suc, ◌-◌, ◌≤◌, true, length, is_replicated}
 use Rattle.dp_lean_epoch.specs.LeanBatch.{IsVersion}
-use Rattle.dp_lean_region.specs.LeanEpoch.{marks_in, begin_in}
+use Rattle.dp_lean_region.specs.LeanEpoch.{epoch_marks, begin_in}
 use Rattle.dp_lean_machine.specs.Sent.{AsStatus, IsSent}
 use Rattle.dp_lean_machine.specs.declared.batch.BatchStatus.{BatchStatus}
 use Rattle.dp_lean_machine.proofs.Passing.{same_sent}
@@ -19,12 +19,13 @@ returns-clause-sent c e b ends like at sent =
     let item = stands_so e at.epoch place b within c.args.batch c.args.batch.version came c.args.batch.status came.item ends like in
     let same = c.taken_version.ensures.same in
     let r = c.run_batch-sent.ensures.sent e b ends (subst (λ (x : BatchStatus). AsStatus x ends) (sym same.status) like) at.epoch within
-    (subst (IsVersion (marks_in e) e.key (suc place) (begin_in e b)) (sym c.in-Some.ensures.version) (item.version replicated))
+    (subst (IsVersion (epoch_marks e) e.key (suc place) (begin_in e b)) (sym c.in-Some.ensures.version) (item.version replicated))
     (λ q. absurd (cc (sym (at.epoch.apart (suc place) replicated) ∙ q)))
     c.args.batch.version
     (same_sent e place b c.args.batch (record c.taken_version.new.batch { version = c.args.batch.version })
     (record { line = same.line; first = same.first; iterations = same.iterations; status = same.status; stages = same.stages }) refl came) in
     record {
-      is = subst (λ (i : ℕ). IsSent e i b c.with_room.result) (sym it) (same_sent e (suc place) b c.run_batch-sent.result.batch c.with_room.result c.with_room.ensures.same c.with_room.ensures.version r.0);
+      is = subst (λ (i : ℕ). IsSent e i b c.with_room.result) (sym it) (same_sent e (suc place) b c.run_batch-sent.result.batch c.with_room.result
+          c.with_room.ensures.same c.with_room.ensures.version r.0);
       next = λ goes. record { epoch = at.epoch; some = at.some; within = at.within; keeps = at.keeps };
     }

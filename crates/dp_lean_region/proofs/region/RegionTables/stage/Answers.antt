@@ -21,7 +21,8 @@ pub returns-in-Some-clause-ready : goal.returns-in-Some-clause-ready
 returns-in-Some-clause-ready c =
     let program = c.program.ensures.value ∙ sym (ap (λ (r : LeanRegion). r.program) c.self.view_is) in
     let plan = c.plan.ensures ∙ sym (ap (λ (r : LeanRegion). r.plan) c.self.view_is) in
-    let columns = columns_there c.self.invariant _ _ (sym (ap (λ (r : LeanRegion). r.program) c.self.view_is)) (sym (ap (λ (r : LeanRegion). r.plan) c.self.view_is)) in
+    let columns = columns_there c.self.invariant _ _ (sym (ap (λ (r : LeanRegion). r.program) c.self.view_is))
+    (sym (ap (λ (r : LeanRegion). r.plan) c.self.view_is)) in
     stage_ready c.staged.ensures _ (c.as_slice.ensures ∙ columns) (c.as_slice-2.ensures ∙ locals_there c.self.invariant _ _ program plan)
 
 pub returns-in-Some-clause-runs : goal.returns-in-Some-clause-runs

@@ -26,5 +26,6 @@ returns c =
       finishes = c.in_ok-steps.ensures.finishes p plan c.args.kinds right finishes;
       hidden = λ at site here cell.
           c.in_ok-hidden.ensures plan cell c.requires.known
-          ∙ ap (λ (s : ℕ). (paying_marks p plan).hides s cell) (sym (blocks_own p plan c.args.stage (paying_marks p plan) c.args.code.now c.requires.code at site here));
+          ∙ ap (λ (s : ℕ). (paying_marks p plan).hides s cell)
+          (sym (blocks_own p plan c.args.stage (paying_marks p plan) c.args.code.now c.requires.code at site here));
     }

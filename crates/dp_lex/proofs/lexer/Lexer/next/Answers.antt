@@ -10,7 +10,8 @@ use Rattle.dp_lex.proofs.lexer.Lexer.next.Goals as goal
 pub returns-in_default-clause-next : goal.returns-in_default-clause-next
 returns-in_default-clause-next c =
     let text = c.self.inside.text.now in let place = c.self.inside.place in
-    let same : drop place text ≡ drop c.skip.new.self.place c.args.self.now.text = ap (λ (v : Reading). drop v.place v.text) c.self.view_is ∙ ap (λ (t : Text). drop c.skip.new.self.place t) c.skip.ensures.text in
+    let same : drop place text ≡ drop c.skip.new.self.place c.args.self.now.text = ap (λ (v : Reading). drop v.place v.text) c.self.view_is
+    ∙ ap (λ (t : Text). drop c.skip.new.self.place t) c.skip.ensures.text in
     let value : c.front.result ≡ front (drop place text) = rw (take_rest text place) at c.front.ensures.value in
     let found : front (drop place text) ≡ None = sym value ∙ c.in_default.is in
     let full : (length (drop place text) == 0) ≡ false = sym (rw (take_rest text place) at c.is_empty.ensures) ∙ c.if-is_empty.false in

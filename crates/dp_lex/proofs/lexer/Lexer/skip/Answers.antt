@@ -1,14 +1,14 @@
 use Rattle.std.proofs.Common.{◌≡◌, ◌+◌, ◌<◌, ◌≤◌, [], drop, take, length, ap, arith}
 use Rattle.std.proofs.lemmas.List.{take_rest}
 use Rattle.dp_lex.specs.Characters.{line_ends}
-use Rattle.dp_lex.specs.Tokens.{Reading, Reads, stays}
+use Rattle.dp_lex.specs.Tokens.{Reading, ReadsTokens, stays}
 use Rattle.dp_lex.specs.Scan.{skipped}
 use Rattle.dp_lex.proofs.Reading.{reads_skip, inside_skip}
 use Rattle.dp_lex.proofs.lexer.Lexer.skip.Goals as goal
 
 pub loop-rest-init : goal.loop-rest-init
 loop-rest-init c =
-    let none : Reads c.args.self.now.text c.args.self.now.place [] c.self.inside.place = rw (← c.self.view_is) stays in
+    let none : ReadsTokens c.args.self.now.text c.args.self.now.place [] c.self.inside.place = rw (← c.self.view_is) stays in
     record { inside = c.self.invariant; same = ap (λ (v : Reading). v.text) c.self.view_is; reads = none }
 
 pub loop-rest-preserved : goal.loop-rest-preserved
@@ -19,8 +19,8 @@ loop-rest-preserved c =
     let within : n ≤ length (drop place text) = rw (take_rest text place) at c.skipped-n.ensures.within in
     let ends : c.line_ends.result ≡ line_ends (take n (drop place text)) = rw (take_rest text place) at c.line_ends.ensures.value in
     let more : 0 < skipped (drop place text) = omega (arith, value, c.if-n-eq0.false) in
-    let reads : Reads text c.args.self.now.place [] place = rw c.loop-rest.invariant.same c.loop-rest.invariant.reads in
-    let on : Reads text c.args.self.now.place [] (place + n) = rw value (reads_skip text c.args.self.now.place place reads more) in
+    let reads : ReadsTokens text c.args.self.now.place [] place = rw c.loop-rest.invariant.same c.loop-rest.invariant.reads in
+    let on : ReadsTokens text c.args.self.now.place [] (place + n) = rw value (reads_skip text c.args.self.now.place place reads more) in
     record {
       inside = rw ends (inside_skip text place line n c.loop-rest.invariant.inside within);
       same = c.loop-rest.invariant.same;

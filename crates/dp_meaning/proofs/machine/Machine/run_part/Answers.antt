@@ -5,7 +5,8 @@ use Rattle.dp_meaning.proofs.StretchEnds.{as_part}
 use Rattle.dp_meaning.proofs.machine.Machine.run_part.Goals as goal
 
 pub returns-then-self-clause-runs : goal.returns-then-self-clause-runs
-returns-then-self-clause-runs c = already_spoiled c.args.turns c.args.self.now c.args.out.now c.requires.turns (ap (λ (m : MachineState). m.spoiled) (sym c.self.view_is) ∙ c.if-self.true)
+returns-then-self-clause-runs c =
+    already_spoiled c.args.turns c.args.self.now c.args.out.now c.requires.turns (ap (λ (m : MachineState). m.spoiled) (sym c.self.view_is) ∙ c.if-self.true)
 
 pub returns-in-Ok-clause-runs : goal.returns-in-Ok-clause-runs
 returns-in-Ok-clause-runs c =

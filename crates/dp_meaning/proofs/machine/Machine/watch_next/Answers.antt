@@ -16,7 +16,8 @@ pub returns-then-self-clause-ok : goal.returns-then-self-clause-ok
 returns-then-self-clause-ok c =
     let some : part_of (rest_at c.self.inside.code c.self.inside.position.place) ≢ Finished = search rules in
     let at : c.self.inside.steps ≡ c.self.inside.fuel = c.if-self.true in
-    ends_fuel c.args.self.now (subst (λ (m : MachineState). part_of m.config.to_do ≢ Finished) c.self.view_is some) (subst (λ (m : MachineState). m.steps ≡ m.fuel) c.self.view_is at)
+    ends_fuel c.args.self.now (subst (λ (m : MachineState). part_of m.config.to_do ≢ Finished) c.self.view_is some)
+    (subst (λ (m : MachineState). m.steps ≡ m.fuel) c.self.view_is at)
 
 pub returns-in-Fault-clause-ok : goal.returns-in-Fault-clause-ok
 returns-in-Fault-clause-ok c =
@@ -29,14 +30,17 @@ pub returns-in-Made-clause-ok : goal.returns-in-Made-clause-ok
 returns-in-Made-clause-ok c =
     let less = step_left _ c.args.self.now c.self.view_is c.self.invariant.within c.if-self.false in
     let taken : TurnTaken c.in_ok-turn.turn c.args.self.now c.step.new.self c.args.out.now c.step.new.out = c.in_ok-turn.ensures.ok in
-    let t : TurnTaken (turn.Made c.in-Made.left c.in-Made.site c.in-Made.effect) c.args.self.now c.step.new.self c.args.out.now c.step.new.out = rw c.in-Made.is at taken in
+    let t : TurnTaken (turn.Made c.in-Made.left c.in-Made.site c.in-Made.effect) c.args.self.now c.step.new.self c.args.out.now c.step.new.out = rw
+    c.in-Made.is at taken in
     let whole : c.step.new.watch.wanting ≡ false = search rules in
-    stepped_so c.args.self.now c.step.new.self c.in-Made.left c.in-Made.site c.in-Made.effect c.args.out.now c.step.new.out c.clear.new.self c.step.new.watch less t c.in_ok-turn.ensures.told (ap (λ (l : Loads). l.cells) c.clear.ensures) whole
+    stepped_so c.args.self.now c.step.new.self c.in-Made.left c.in-Made.site c.in-Made.effect c.args.out.now c.step.new.out c.clear.new.self c.step.new.watch
+    less t c.in_ok-turn.ensures.told (ap (λ (l : Loads). l.cells) c.clear.ensures) whole
 
 pub returns-in-Made-clause-prints : goal.returns-in-Made-clause-prints
 returns-in-Made-clause-prints c =
     let taken : TurnTaken c.in_ok-turn.turn c.args.self.now c.step.new.self c.args.out.now c.step.new.out = c.in_ok-turn.ensures.ok in
-    let t : TurnTaken (turn.Made c.in-Made.left c.in-Made.site c.in-Made.effect) c.args.self.now c.step.new.self c.args.out.now c.step.new.out = rw c.in-Made.is at taken in
+    let t : TurnTaken (turn.Made c.in-Made.left c.in-Made.site c.in-Made.effect) c.args.self.now c.step.new.self c.args.out.now c.step.new.out = rw
+    c.in-Made.is at taken in
     step_printed c.args.self.now c.step.new.self c.in-Made.left c.in-Made.site c.in-Made.effect c.args.out.now c.step.new.out t
 
 pub returns-in_err-turn-clause-err : goal.returns-in_err-turn-clause-err

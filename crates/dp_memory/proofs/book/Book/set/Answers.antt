@@ -13,7 +13,8 @@ returns-then-number-self-clause-ok c =
     let test = c.if-number-self.true in
     let count = c.requires.book.1 in
     let both = set_before pages c.args.self.now.last.items c.args.number c.args.place c.args.value (omega arith) in
-    on_ok c.set.result (λ e. ap (λ r. r ++ c.args.self.now.last.items ∷ []) (e ∙ ap (λ v. with_cell pages c.args.number c.args.place v) fits) ∙ sym both) c.set.ensures.ok
+    on_ok c.set.result (λ e. ap (λ r. r ++ c.args.self.now.last.items ∷ []) (e ∙ ap (λ v. with_cell pages c.args.number c.args.place v) fits)
+    ∙ sym both) c.set.ensures.ok
 
 pub index_mut-requires : goal.index_mut-requires
 index_mut-requires c =
@@ -30,4 +31,5 @@ returns-clause-ok c =
     let test = c.if-number-self.false in
     let count = c.requires.book.1 in
     let here = at_last pages c.args.self.now.last.items c.args.number c.args.place c.requires.cell (omega arith) in
-    ap (λ v. pages ++ set c.args.self.now.last.items c.args.place v ∷ []) fits ∙ sym (set_last pages c.args.self.now.last.items c.args.number c.args.place c.args.value here)
+    ap (λ v. pages ++ set c.args.self.now.last.items c.args.place v ∷ []) fits
+    ∙ sym (set_last pages c.args.self.now.last.items c.args.number c.args.place c.args.value here)

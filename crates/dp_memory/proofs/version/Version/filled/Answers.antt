@@ -16,5 +16,6 @@ loop-place-preserved c =
     let spot : first + (place - first) ≡ place = omega arith in
     let next : place - first + 1 ≡ place + 1 - first = omega arith in
     c.in_ok-put.ensures.ok ∙ ap (λ (r : List ℤ). set r place value) c.loop-place.invariant
-    ∙ ap (λ (k : ℕ). set (filled c.args.self first (place - first) value) k value) (sym spot) ∙ filled_next c.args.self first value (place - first) (omega arith)
+    ∙ ap (λ (k : ℕ). set (filled c.args.self first (place - first) value) k value) (sym spot)
+    ∙ filled_next c.args.self first value (place - first) (omega arith)
     ∙ ap (λ (k : ℕ). filled c.args.self first k value) next

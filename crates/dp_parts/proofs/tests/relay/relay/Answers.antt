@@ -21,8 +21,12 @@ join-is_ordered-requires-after_bounds g c κs within =
     let made = c.in_ok-producer.ensures in
     let one = parted c.pop.new.self c.in-Some-Some.first _ _ (sym made.workers ∙ c.in-Some-Some.ensures) in
     let two = alone c.pop-2.new.self c.in-Some-Some.second _ (sym one.1 ∙ c.in-Some-Some.ensures') in
-    let producer : IsFirst c.in_ok-producer.producer = (ap (λ (s : Standing ℕ). s.view.at) made.producer, (0, ap (λ (s : Standing ℕ). s.view.key) made.producer)) in
-    let first : IsIdle c.in-Some-Some.first = (ap (λ (s : Standing ℕ). s.view.phase) one.0, ap (λ (s : Standing ℕ). s.view.drawn) one.0, (0, ap (λ (s : Standing ℕ). s.view.key) one.0)) in
-    let second : IsIdle c.in-Some-Some.second = (ap (λ (s : Standing ℕ). s.view.phase) two, ap (λ (s : Standing ℕ). s.view.drawn) two, (0, ap (λ (s : Standing ℕ). s.view.key) two)) in
-    let consumer : IsFirst c.in_ok-producer.consumer = (ap (λ (s : Standing ℕ). s.view.at) made.consumer, (0, ap (λ (s : Standing ℕ). s.view.key) made.consumer)) in
+    let producer : IsFirst c.in_ok-producer.producer =
+    (ap (λ (s : Standing ℕ). s.view.at) made.producer, (0, ap (λ (s : Standing ℕ). s.view.key) made.producer)) in
+    let first : IsIdle c.in-Some-Some.first =
+    (ap (λ (s : Standing ℕ). s.view.phase) one.0, ap (λ (s : Standing ℕ). s.view.drawn) one.0, (0, ap (λ (s : Standing ℕ). s.view.key) one.0)) in
+    let second : IsIdle c.in-Some-Some.second =
+    (ap (λ (s : Standing ℕ). s.view.phase) two, ap (λ (s : Standing ℕ). s.view.drawn) two, (0, ap (λ (s : Standing ℕ). s.view.key) two)) in
+    let consumer : IsFirst c.in_ok-producer.consumer =
+    (ap (λ (s : Standing ℕ). s.view.at) made.consumer, (0, ap (λ (s : Standing ℕ). s.view.key) made.consumer)) in
     (producer, ((first, second, consumer), search rules))

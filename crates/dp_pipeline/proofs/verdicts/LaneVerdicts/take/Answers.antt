@@ -5,7 +5,7 @@ use Rattle.dp_judge.specs.declared.verdict.Verdict.{Verdict}
 use Rattle.dp_lane.specs.declared.rule.View.{View}
 use Rattle.dp_pipeline.specs.declared.keys.LaneKey.{LaneKey}
 use Rattle.dp_pipeline.specs.declared.told.Told.{Told}
-use Rattle.dp_pipeline.specs.Coming.{Coming, Comes, coming_on}
+use Rattle.dp_pipeline.specs.Coming.{Coming, VerdictComes, coming_on}
 use Rattle.dp_pipeline.specs.Left.{left_of, AwaitsOn}
 use Rattle.dp_pipeline.proofs.VerdictsCome.{refilled, first_given, none_kept, back_to}
 use Rattle.dp_pipeline.proofs.verdicts.LaneVerdicts.take.Goals as goal
@@ -29,8 +29,10 @@ returns-in-Some-take g c =
     let t = c.next.new.self in let none = c.in_default.ensures in
     let kept = none_kept v c.self.inside.back.end.view c.self.inside.told t c.self.invariant none.0 none.1 none.2 none.3 in
     let r = c.refill-spare.new.self in let u = c.next-in-Some-take.new.self in
-    let came = refilled v w c.self.inside.back.end.view c.send.new.self.end.view c.in-Some-take.judged t r c.in-Some-take.ensures.1 kept.0 none.1 c.if-self.false
+    let came = refilled v w c.self.inside.back.end.view c.send.new.self.end.view c.in-Some-take.judged t r c.in-Some-take.ensures.1 kept.0
+    none.1 c.if-self.false
     c.send.ensures c.refill-spare.ensures.left c.refill-spare.ensures.over c.refill-spare.ensures.given in
     let same : coming_on w r.given ≡ c.args.self.now = came.1 ∙ kept.1 ∙ c.self.view_is in
-    subst (λ (k : Coming). MatchOption c.next-in-Some-take.result (coming_on w u.given ≡ k) (λ (verdict : Verdict). Comes verdict k (coming_on w u.given))) same
+    subst (λ (k : Coming). MatchOption c.next-in-Some-take.result (coming_on w u.given ≡ k) (λ (verdict : Verdict). VerdictComes verdict k
+    (coming_on w u.given))) same
     (first_given w c.send.new.self.end.view r u c.next-in-Some-take.result came.0 c.next-in-Some-take.ensures).0

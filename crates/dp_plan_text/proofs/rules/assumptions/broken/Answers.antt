@@ -10,7 +10,8 @@ use Rattle.dp_plan_text.proofs.rules.assumptions.broken.Goals as goal
 
 -- what each call answers, of the lists that it reads
 module _ (p : Program) (w : WrittenPlan) (named : Option ℕ) where
-  seventh : (read : List Enclosing) → named ≡ least (map site_of_condition (filter (comes_late w) read)) → read ≡ region_inner_whiles p w.region → named ≡ late_while p w
+  seventh : (read : List Enclosing) → named ≡ least (map site_of_condition (filter (comes_late w) read)) → read ≡ region_inner_whiles p w.region →
+      named ≡ late_while p w
   seventh read is of_region = is ∙ ap (λ l. least (map site_of_condition (filter (comes_late w) l))) of_region
 
   module _ (all ordered : List ℕ) (is_all : all ≡ map assumed_site w.assume) (moved : IsPermutation all ordered) (read : List Enclosing) (among : List ℕ)
@@ -34,7 +35,8 @@ pub returns-in-Some-late_if : goal.returns-in-Some-late_if
 returns-in-Some-late_if c =
     let p = c.args.p.now in let w = c.args.w.now in
     let seven = seventh p w c.late_while.result _ c.late_while.ensures (c.as_slice.ensures ∙ c.in_ok-whiles.ensures) in
-    let eight = eighth p w c.late_if.result _ c.in_order-assumed.result c.in_ok-assumed_sites.ensures c.in_order-assumed.ensures.permutation _ _ (c.as_slice-3.ensures ∙ c.in_ok-ifs.ensures) c.as_slice-2.ensures c.late_if.ensures in
+    let eight = eighth p w c.late_if.result _ c.in_order-assumed.result c.in_ok-assumed_sites.ensures c.in_order-assumed.ensures.permutation _ _
+    (c.as_slice-3.ensures ∙ c.in_ok-ifs.ensures) c.as_slice-2.ensures c.late_if.ensures in
     breaks 8 c.in-Some-late_if.site (late_if p w) (wrongly_assumed p w ∷ []) (sym eight ∙ c.in-Some-late_if.is)
     ∙ holds 7 (late_while p w) (late_if p w ∷ wrongly_assumed p w ∷ []) (sym seven ∙ c.in_default.is)
 
@@ -42,8 +44,10 @@ pub returns-in-Some-2 : goal.returns-in-Some-2
 returns-in-Some-2 c =
     let p = c.args.p.now in let w = c.args.w.now in
     let seven = seventh p w c.late_while.result _ c.late_while.ensures (c.as_slice.ensures ∙ c.in_ok-whiles.ensures) in
-    let eight = eighth p w c.late_if.result _ c.in_order-assumed.result c.in_ok-assumed_sites.ensures c.in_order-assumed.ensures.permutation _ _ (c.as_slice-3.ensures ∙ c.in_ok-ifs.ensures) c.as_slice-2.ensures c.late_if.ensures in
-    let nine = ninth p w c.in_ok-site.field-0 _ c.in_order-assumed.result c.in_ok-assumed_sites.ensures c.in_order-assumed.ensures.permutation _ _ (c.as_slice-5.ensures ∙ c.in_ok-ifs.ensures) c.as_slice-4.ensures c.in_ok-site.ensures in
+    let eight = eighth p w c.late_if.result _ c.in_order-assumed.result c.in_ok-assumed_sites.ensures c.in_order-assumed.ensures.permutation _ _
+    (c.as_slice-3.ensures ∙ c.in_ok-ifs.ensures) c.as_slice-2.ensures c.late_if.ensures in
+    let nine = ninth p w c.in_ok-site.field-0 _ c.in_order-assumed.result c.in_ok-assumed_sites.ensures c.in_order-assumed.ensures.permutation _ _
+    (c.as_slice-5.ensures ∙ c.in_ok-ifs.ensures) c.as_slice-4.ensures c.in_ok-site.ensures in
     breaks 9 c.in-Some-2.site (wrongly_assumed p w) [] (sym nine ∙ c.in-Some-2.is)
     ∙ holds 8 (late_if p w) (wrongly_assumed p w ∷ []) (sym eight ∙ c.in_default-late_if.is)
     ∙ holds 7 (late_while p w) (late_if p w ∷ wrongly_assumed p w ∷ []) (sym seven ∙ c.in_default.is)
@@ -52,8 +56,10 @@ pub returns : goal.returns
 returns c =
     let p = c.args.p.now in let w = c.args.w.now in
     let seven = seventh p w c.late_while.result _ c.late_while.ensures (c.as_slice.ensures ∙ c.in_ok-whiles.ensures) in
-    let eight = eighth p w c.late_if.result _ c.in_order-assumed.result c.in_ok-assumed_sites.ensures c.in_order-assumed.ensures.permutation _ _ (c.as_slice-3.ensures ∙ c.in_ok-ifs.ensures) c.as_slice-2.ensures c.late_if.ensures in
-    let nine = ninth p w c.in_ok-site.field-0 _ c.in_order-assumed.result c.in_ok-assumed_sites.ensures c.in_order-assumed.ensures.permutation _ _ (c.as_slice-5.ensures ∙ c.in_ok-ifs.ensures) c.as_slice-4.ensures c.in_ok-site.ensures in
+    let eight = eighth p w c.late_if.result _ c.in_order-assumed.result c.in_ok-assumed_sites.ensures c.in_order-assumed.ensures.permutation _ _
+    (c.as_slice-3.ensures ∙ c.in_ok-ifs.ensures) c.as_slice-2.ensures c.late_if.ensures in
+    let nine = ninth p w c.in_ok-site.field-0 _ c.in_order-assumed.result c.in_ok-assumed_sites.ensures c.in_order-assumed.ensures.permutation _ _
+    (c.as_slice-5.ensures ∙ c.in_ok-ifs.ensures) c.as_slice-4.ensures c.in_ok-site.ensures in
     holds 9 (wrongly_assumed p w) [] (sym nine ∙ c.in_default-2.is)
     ∙ holds 8 (late_if p w) (wrongly_assumed p w ∷ []) (sym eight ∙ c.in_default-late_if.is)
     ∙ holds 7 (late_while p w) (late_if p w ∷ wrongly_assumed p w ∷ []) (sym seven ∙ c.in_default.is)

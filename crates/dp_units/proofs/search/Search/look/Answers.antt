@@ -16,7 +16,8 @@ index-mark-requires c =
     subst (λ k. c.args.target < k) (sym c.requires.going.each ∙ sym c.args.self.now.marks.ok.0) low
 
 pub bounds-graph-target : goal.bounds-graph-target
-bounds-graph-target c = target_within c.args.graph.edges.now c.args.graph.rows.now c.requires.graph c.args.self.now c.requires.going c.args.target c.requires.last
+bounds-graph-target c =
+    target_within c.args.graph.edges.now c.args.graph.rows.now c.requires.graph c.args.self.now c.requires.going c.args.target c.requires.last
 
 pub enter-requires : goal.enter-requires
 enter-requires c =
@@ -32,7 +33,8 @@ returns-in-Unseen c =
     let low : target < length rows = target_within c.args.graph.edges.now rows c.requires.graph s c.requires.going target c.requires.last in
     let there : At rows target row = slice_get_read rows (length rows) target row refl low c.index-graph-target.is in
     let long : target < length s.marks.items = subst (λ k. target < k) (sym c.requires.going.each) low in
-    let mark : At s.marks.items target c.index-mark.result.now = slice_get_read s.marks.items (length s.marks.items) target c.index-mark.result.now refl long c.index-mark.ensures in
+    let mark : At s.marks.items target c.index-mark.result.now = slice_get_read s.marks.items (length s.marks.items) target c.index-mark.result.now refl long
+    c.index-mark.ensures in
     let unseen : At s.marks.items target Unseen = subst (λ (m : Mark). At s.marks.items target m) c.in-Unseen.is mark in
     let items : c.as_slice.result.now ≡ row.items = c.as_slice.ensures.value ∙ ap (λ (r : Vec ℕ Global). r.items) (sym c.index-graph-target.is) in
     on_ok_weaker c.enter.result (λ is. entered_on c.args.graph.edges.now rows c.requires.graph s c.requires.going target row c.enter.new.self
@@ -46,6 +48,9 @@ returns c =
     let target : ℕ = c.args.target in
     let low : target < length rows = target_within c.args.graph.edges.now rows c.requires.graph s c.requires.going target c.requires.last in
     let long : target < length s.marks.items = subst (λ k. target < k) (sym c.requires.going.each) low in
-    let mark : At s.marks.items target c.index-mark.result.now = slice_get_read s.marks.items (length s.marks.items) target c.index-mark.result.now refl long c.index-mark.ensures in
-    let rest : c.pop.new.self.items ≡ take (length s.waiting.items - 1) s.waiting.items = c.pop.ensures.rest ∙ ap (λ k. take (k - 1) s.waiting.items) s.waiting.ok.0 in
-    settled_on _ rows c.requires.graph s c.requires.going target c.index-mark.result.now _ c.requires.last mark c.in_default.not-Unseen refl refl c.join.ensures rest refl
+    let mark : At s.marks.items target c.index-mark.result.now = slice_get_read s.marks.items (length s.marks.items) target c.index-mark.result.now refl long
+    c.index-mark.ensures in
+    let rest : c.pop.new.self.items ≡ take (length s.waiting.items - 1) s.waiting.items = c.pop.ensures.rest
+    ∙ ap (λ k. take (k - 1) s.waiting.items) s.waiting.ok.0 in
+    settled_on _ rows c.requires.graph s c.requires.going target c.index-mark.result.now _ c.requires.last mark c.in_default.not-Unseen refl refl
+    c.join.ensures rest refl

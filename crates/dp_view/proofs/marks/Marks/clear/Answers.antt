@@ -12,5 +12,6 @@ invariant_of-self c x =
 pub returns : goal.returns
 returns c =
     let size : length c.unset.new.flags ≡ length c.self.inside.flags = ap length c.unset.ensures ∙ unset-length c.as_slice.result.now c.self.inside.flags in
-    ap (λ (n : ℕ). record { size = n; cells = c.clear.new.self.items }) size ∙ ap (λ (cells : List ℕ). record { size = length c.self.inside.flags; cells = cells }) c.clear.ensures.items
+    ap (λ (n : ℕ). record { size = n; cells = c.clear.new.self.items }) size
+    ∙ ap (λ (cells : List ℕ). record { size = length c.self.inside.flags; cells = cells }) c.clear.ensures.items
     ∙ ap (λ (m : Marked). none_marked m.size) c.self.view_is

@@ -9,5 +9,9 @@ use Rattle.dswp.proofs.tests.units.with_program.Goals as goal
 
 pub new-requires : goal.new-requires
 new-requires g c =
-    let plans_are : ArePlans c.args.program.now c.in-Text.plans = given _ _ _ (c.in_ok-plans.was ∙ ap Ok c.in-Text.is) (read_plans_fit _ _ _ c.requires.inlined _ c.load_plans.ensures.loads) in
-    record { planned = planned c.args.program.now c.requires.inlined _ (each_at (IsPlan c.args.program.now) _ plans_are.each 0 _ (ap (λ (xs : List Plan). slice_get xs 0) (sym c.as_slice.ensures) ∙ sym c.in-Some.ensures.value)) }
+    let plans_are : ArePlans c.args.program.now c.in-Text.plans = given _ _ _ (c.in_ok-plans.was ∙ ap Ok c.in-Text.is)
+    (read_plans_fit _ _ _ c.requires.inlined _ c.load_plans.ensures.loads) in
+    record {
+      planned = planned c.args.program.now c.requires.inlined _ (each_at (IsPlan c.args.program.now) _ plans_are.each 0 _
+          (ap (λ (xs : List Plan). slice_get xs 0) (sym c.as_slice.ensures) ∙ sym c.in-Some.ensures.value));
+    }

@@ -1,0 +1,63 @@
+//! By which plans a region's iterations were run.
+
+/// What was run by one plan.
+#[derive(Clone, Copy)]
+pub struct Ran {
+    /// How many iterations were committed.
+    pub iterations: u64,
+    /// From how many epochs.
+    pub epochs: u64,
+    /// How long these lasted.
+    pub nanoseconds: u64,
+}
+
+impl Ran {
+    /// Nothing.
+    pub fn nothing() -> Ran {
+        Ran {
+            iterations: 0,
+            epochs: 0,
+            nanoseconds: 0,
+        }
+    }
+
+    /// Both together.
+    pub fn and(self, more: Ran) -> Ran {
+        Ran {
+            iterations: self.iterations.saturating_add(more.iterations),
+            epochs: self.epochs.saturating_add(more.epochs),
+            nanoseconds: self.nanoseconds.saturating_add(more.nanoseconds),
+        }
+    }
+}
+
+/// By which plans the iterations of a region were run, from its entry to its end.
+#[derive(Clone, Copy)]
+pub struct Chosen {
+    /// By the one-stage form of its plan.
+    pub one_stage: Ran,
+    /// By a plan that keeps inner loops whole.
+    pub whole_loops: Ran,
+    /// By its own plan.
+    pub own: Ran,
+    /// How many iterations were executed again.
+    pub again: u64,
+    /// How often an epoch was by another plan than the one before.
+    pub switches: u64,
+    /// How long all lasted.
+    pub nanoseconds: u64,
+}
+
+impl Chosen {
+    /// Nothing.
+    pub fn nothing() -> Chosen {
+        Chosen {
+            one_stage: Ran::nothing(),
+            whole_loops: Ran::nothing(),
+            own: Ran::nothing(),
+            again: 0,
+            switches: 0,
+            nanoseconds: 0,
+        }
+    }
+}
