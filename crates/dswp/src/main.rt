@@ -65,7 +65,8 @@ fn tell_people(rt: &HostRuntime, words: &[String], status: u8, tail: &[u8], choi
     let mut files = FileShelf::new(rt);
     let mut errors = OutSink::new(&stderr);
     let _ = tell(rt.alloc(), words, &mut files, status, tail, &mut errors);
-    let _ = tell_choices(rt.alloc(), choices, &mut errors);
+    let mut lines = OutSink::new(&stderr);
+    let _ = tell_choices(rt.alloc(), choices, &mut lines);
 }
 
 /// The words after the program's name.
