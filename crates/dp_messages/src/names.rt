@@ -116,9 +116,13 @@ fn tell_at(
         matches!(text_behind(tokens, at, 1), b"("),
         offence,
     );
+    let found = scope.find(name);
+    if let (Offence::Arguments, Some(seen)) = (offence, found) {
+        put_numbers(page, arguments_behind(tokens, at), seen.params());
+    }
     page.put("\n");
     put_spot(page, source, placed.spot(), "");
-    match scope.find(name) {
+    match found {
         Some(seen) => put_declaration(page, source, tokens, seen),
         None => put_unknown(page, source, tokens, at, scope),
     }
