@@ -1,5 +1,5 @@
 -- What a verdict tells.
-use Rattle.std.specs.Prelude.{◌≡◌, Bool, true, false, not}
+use Rattle.std.specs.Prelude.{◌≡◌, Bool, false, not}
 use Rattle.dp_base.specs.declared.Cause.{Cause}
 use Rattle.dp_semantics.specs.EpochKey.{EpochKey}
 use Rattle.dp_semantics.specs.EpochVerdicts.{Verdict as Decided, Commit, Again}
@@ -19,9 +19,3 @@ abbrev pub goes_on_behind : Verdict → Bool
 goes_on_behind (Clean v) = not v.closing
 goes_on_behind Unclean = false
 goes_on_behind NoMemory = false
-
--- it tells of want of memory
-abbrev pub wants_memory : Verdict → Bool
-wants_memory (Clean v) = false
-wants_memory Unclean = false
-wants_memory NoMemory = true

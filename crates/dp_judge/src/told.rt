@@ -1,7 +1,7 @@
 //! What is decided of a batch, verdict by verdict.
 ghost use Rattle.std.specs.Prelude.{◌≡◌, ◌++◌, ◌∷◌, [], length, slice_get, true, ◌≤◌, Some, OnErr, OnOk};
 ghost use Rattle.std.specs.List.{list_all};
-ghost use Rattle.dp_judge.specs.Told.{goes_on_behind, wants_memory};
+ghost use Rattle.dp_judge.specs.Told.{goes_on_behind};
 ghost use Rattle.dp_judge.specs.declared.verdict.Verdict.TheVariants as verdict;
 ghost use Rattle.dp_judge.specs.Decided.{GivesNext, carried_by, cleans, end_verdicts, last_given, left_to_give};
 ghost use Rattle.dp_judge.specs.steps.Adding.{IsUngiven};
@@ -227,17 +227,6 @@ impl ToldBatch {
             } => Verdict::Clean(self.carried(part, stores, prints)),
             Last::Unclean => Verdict::Unclean,
             Last::NoMemory => Verdict::NoMemory,
-        }
-    }
-
-    /// The verdict that was given last tells of want of memory.
-    pub fn is_wanting(&self) -> bool
-        ensures { result ≡ wants_memory (last_given self.now) }
-    {
-        match self.last {
-            Last::Clean { .. } => false,
-            Last::Unclean => false,
-            Last::NoMemory => true,
         }
     }
 }
