@@ -90,7 +90,7 @@ fn run_own_epoch<'p, 'v, 'u, E, R: Wait + Clock + Sync, K: Sink, G: Gate, W: Wat
         lent,
     )?;
     let mut polled = verdicts.polling(units);
-    crew.begin(None);
+    crew.begin(None, ledger.committed.steps());
     let end = run_epoch(
         crew,
         work.alloc,

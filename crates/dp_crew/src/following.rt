@@ -78,7 +78,7 @@ fn follow_epoch<'p, 'v, 'u, E, R: Wait + Clock + Sync, K: Sink, G: Gate, W: Watc
     )?;
     let mut polled = verdicts.polling(units);
     let words = work.region.plan().words;
-    crew.begin(Some(way));
+    crew.begin(Some(way), ledger.committed.steps());
     let followed = follow_verdicts(
         crew,
         way,
@@ -146,7 +146,7 @@ fn follow_verdicts<'p, 'v, 'u, E, R: Wait + Clock + Sync, K: Sink, G: Gate, W: W
         flush_if_many(alloc, &mut ledger.waiting, sink)?;
         match followed {
             Followed::Committed => {
-                if !crew.follows_on(way) {
+                if !crew.follows_on(way, ledger.committed.steps()) {
                     return Ok(ledger);
                 }
             }
