@@ -27,7 +27,11 @@ impl Pace {
     /// Whether a step took less time, by so many parts of a hundred of the other's. An unknown pace is no slower than any.
     pub(crate) fn takes_less(self, percent: u64, other: Pace) -> bool {
         let own = self.nanoseconds.saturating_mul(other.steps);
-        own.saturating_mul(100) < other.nanoseconds.saturating_mul(self.steps).saturating_mul(percent)
+        own.saturating_mul(100)
+            < other
+                .nanoseconds
+                .saturating_mul(self.steps)
+                .saturating_mul(percent)
     }
 
     /// How long it took.
