@@ -18,10 +18,13 @@ const SPAN: u32 = 65_536;
 
 const LONGEST_SPAN: u32 = 16_777_216;
 
-/// Behind each so many of them the clock is looked at, and behind so many nanoseconds it has to have been quicker.
+/// Behind each so many of them the clock is looked at, and behind so many nanoseconds a step may not have taken more than so
+/// many parts of a hundred of a followed one's time.
 const REVIEW: u32 = 256;
 
 const DOUBT: u64 = 16_000_000;
+
+const SLOWER: u64 = 110;
 
 /// Behind a trial that failed, iterations are followed for so many times as long before the next one, twice as long each time.
 const REST: u64 = 4;
@@ -198,7 +201,7 @@ impl Choice {
         if passed < DOUBT {
             return;
         }
-        if self.watch.pace(now, steps).takes_less(100, self.alone) {
+        if self.watch.pace(now, steps).takes_less(SLOWER, self.alone) {
             self.watch = Stopwatch::start(now, steps);
         } else {
             self.fail(passed);

@@ -10,11 +10,13 @@ const SOME: u32 = 64;
 const MANY: u32 = 1_024;
 
 /// A window shows that the plan is quicker where a step took so many parts of a hundred of a followed one's time. While threads
-/// are started and the pipeline is filled windows are slow, so a trial without a quick one ends behind so many nanoseconds or
-/// verdicts only, or behind many of which a step took more than twice the time.
+/// are started and the pipeline is filled windows are slow, so a trial without a quick one ends behind so many nanoseconds and
+/// windows only, or behind so many verdicts, or behind many of which a step took more than twice the time.
 const QUICKER: u64 = 90;
 
 const LONGEST: u64 = 12_000_000;
+
+const WINDOWS: u32 = 3;
 
 const MOST: u32 = 3_072;
 
@@ -30,9 +32,10 @@ pub(crate) enum Shown {
     Slower,
 }
 
-/// How many verdicts of a trial came, and how many in the window under way.
+/// How many windows are over, how many verdicts of a trial came, and how many in the window under way.
 #[derive(Clone, Copy)]
 pub(crate) struct Trial {
+    windows: u32,
     tried: u32,
     within: u32,
     watch: Stopwatch,
@@ -44,6 +47,7 @@ impl Trial {
     pub(crate) fn begin(now: u64, steps: u64) -> Trial {
         let watch = Stopwatch::start(now, steps);
         Trial {
+            windows: 0,
             tried: 0,
             within: 0,
             watch,
@@ -72,6 +76,7 @@ impl Trial {
     fn end_window(&mut self, now: u64, steps: u64, alone: Pace) -> Shown {
         let pace = self.window.pace(now, steps);
         self.within = 0;
+        self.windows = self.windows.saturating_add(1);
         self.window = Stopwatch::start(now, steps);
         if pace.takes_less(QUICKER, alone) {
             Shown::Quicker
@@ -83,7 +88,7 @@ impl Trial {
     }
 
     fn is_over(&self, now: u64) -> bool {
-        self.tried >= MOST || self.passed(now) >= LONGEST
+        self.tried >= MOST || (self.windows >= WINDOWS && self.passed(now) >= LONGEST)
     }
 
     fn is_slow(&self, pace: Pace, alone: Pace) -> bool {
