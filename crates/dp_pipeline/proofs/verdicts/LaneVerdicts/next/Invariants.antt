@@ -2,4 +2,4 @@ use Rattle.std.proofs.Common.{◌≡◌}
 use Rattle.dp_pipeline.proofs.verdicts.LaneVerdicts.next.Given as goal
 
 abbrev pub invariant-turns : goal.invariant-turns
-invariant-turns g l = l.self ≡ l.fn.self
+invariant-turns g l = (l.self.key ≡ l.fn.self.key) × (l.self.given ≡ l.fn.self.given)
