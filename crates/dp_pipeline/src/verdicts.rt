@@ -131,6 +131,19 @@ impl<'u> LaneVerdicts<'u> {
         ensures key { self.new.key ≡ self.old.key }
         ensures given { self.new.given ≡ self.old.given + 1 }
     {
+        if !self.give() {
+            self.await_next(rt);
+        }
+    }
+
+    /// The same, where none is left of those that came. It is out of line, so that what is frequent stays short.
+    #[inline(never)]
+    fn await_next<R: Wait + Clock>(&mut self, rt: &R)
+        requires { (n : ℕ) → n < self.old.given → goes_on (verdict_at self.old.key n) ≡ true }
+        ensures verdict { SaysDecided self.old.key self.new.last (verdict_at self.old.key self.old.given) }
+        ensures key { self.new.key ≡ self.old.key }
+        ensures given { self.new.given ≡ self.old.given + 1 }
+    {
         'turns: for _ in rt.forever() {
             if self.take(rt) {
                 return;
@@ -138,6 +151,14 @@ impl<'u> LaneVerdicts<'u> {
             self.poll_own(rt);
         }
         unreachable!()
+    }
+
+    /// Gives the next of the verdicts that came, if one is left.
+    #[inline(always)]
+    fn give(&mut self) -> bool
+        ensures { ComesNext result self.old self.new }
+    {
+        self.told.next()
     }
 
     /// The verdict that was given last: want of memory before the first.
