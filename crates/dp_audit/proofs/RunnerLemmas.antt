@@ -17,7 +17,7 @@ use Rattle.dp_pipeline.specs.Coming.{Coming}
 use Rattle.dp_epoch.specs.declared.account.Account.{Account}
 use Rattle.dp_epoch.specs.Accounts.{begun_account}
 use Rattle.dp_epoch.specs.declared.ledger.Ledger.{Ledger}
-use Rattle.dp_epoch.specs.InEpoch.{AtEpoch, ToBegin, key_here}
+use Rattle.dp_epoch.specs.InEpoch.{AtEpoch, ToBegin, key_here, none_given}
 use Rattle.dp_epoch.specs.Progress.{Progress}
 use Rattle.dp_epoch.specs.RegionRun.{IsPlanned, RegionStart}
 use Rattle.dp_epoch.proofs.EpochBegins.{epoch_here, sound_here}
@@ -70,7 +70,7 @@ module _ (p : Program) (plan : Plan) (input : List ℤ) (first : MachineState) w
 
     -- the epoch that begins
     pub begun : AtEpoch plan first r.ledger.committed r.ledger.account → (v : Coming) →
-        v ≡ record { key = key_here r.epochs.region.now.program r.epochs.region.now.plan r.epochs.input.now r.ledger.committed; given = 0 } →
+        v ≡ none_given (key_here r.epochs.region.now.program r.epochs.region.now.plan r.epochs.input.now r.ledger.committed) →
         EpochUnderWay plan first r.ledger v
     begun a v is = subst (EpochUnderWay plan first r.ledger) (sym is) (record {
       plan_is = k.own_plan;

@@ -52,7 +52,7 @@ pub record CommitsNext (p : Program) (plan : Plan) (input : List ℤ) (first : M
   pub kept : RunnerIsKept p plan input first r
   pub before : ℕ
   pub given : v.given ≡ before + 1
-  pub under_way : EpochUnderWay plan first r.ledger (record { key = v.key; given = before })
+  pub under_way : EpochUnderWay plan first r.ledger (record v { given = before })
   pub verdict : SaysTheSame v.key (verdict_at v.key before) (Commit clean)
 
 -- The next iteration is to be executed again.

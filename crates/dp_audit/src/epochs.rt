@@ -1,7 +1,7 @@
 //! The epochs of a region, each polled on the calling thread.
 ghost use Rattle.std.specs.Prelude.{◌≡◌, ◌≤◌, IfOk};
 ghost use Rattle.dp_semantics.specs.EpochCauses.{IsSound};
-ghost use Rattle.dp_epoch.specs.InEpoch.{key_here};
+ghost use Rattle.dp_epoch.specs.InEpoch.{key_here, none_given};
 
 use dp_base::NoMemory;
 use dp_epoch::{CrewSize, Ledger, pipeline_here};
@@ -27,8 +27,7 @@ impl<'s, 'q> Epochs<'s, 'q> {
         requires fuel { ledger.now.committed.machine.fuel ≤ 1000000000 }
         ensures kept { self.new ≡ self.old }
         ensures verdicts { IfOk result
-            (λ verdicts. verdicts
-            ≡ record { key = key_here self.old.region.now.program self.old.region.now.plan self.old.input.now ledger.now.committed; given = 0 }) }
+            (λ verdicts. verdicts ≡ none_given (key_here self.old.region.now.program self.old.region.now.plan self.old.input.now ledger.now.committed)) }
     {
         let Pipeline { units, verdicts } = pipeline_here(
             self.alloc,

@@ -1,1 +1,2 @@
 pub mod CommittedState
+pub mod Counted

@@ -1,4 +1,6 @@
 //! By which plans a region's iterations were run.
+ghost use Rattle.std.specs.Prelude.{◌≡◌, ◌+◌};
+ghost use Rattle.dp_commit.specs.Counted.{counted, none_chosen, none_ran};
 
 /// What was run by one plan.
 #[derive(Clone, Copy)]
@@ -13,7 +15,9 @@ pub struct Ran {
 
 impl Ran {
     /// Nothing.
-    pub fn nothing() -> Ran {
+    pub fn nothing() -> Ran
+        ensures { result ≡ none_ran }
+    {
         Ran {
             iterations: 0,
             epochs: 0,
@@ -22,7 +26,11 @@ impl Ran {
     }
 
     /// Both together.
-    pub fn and(self, more: Ran) -> Ran {
+    pub fn and(self, more: Ran) -> Ran
+        ensures iterations { result.iterations ≡ counted (self.iterations + more.iterations) }
+        ensures epochs { result.epochs ≡ counted (self.epochs + more.epochs) }
+        ensures nanoseconds { result.nanoseconds ≡ counted (self.nanoseconds + more.nanoseconds) }
+    {
         Ran {
             iterations: self.iterations.saturating_add(more.iterations),
             epochs: self.epochs.saturating_add(more.epochs),
@@ -50,7 +58,9 @@ pub struct Chosen {
 
 impl Chosen {
     /// Nothing.
-    pub fn nothing() -> Chosen {
+    pub fn nothing() -> Chosen
+        ensures { result ≡ none_chosen }
+    {
         Chosen {
             one_stage: Ran::nothing(),
             whole_loops: Ran::nothing(),

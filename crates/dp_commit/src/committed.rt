@@ -103,12 +103,12 @@ impl<'p> Committed<'p> {
     }
 
     /// Commits the next iteration from the pipeline. It takes no memory.
-    pub fn apply<W: Watch>(&mut self, clean: Clean, tally: &mut Tally<W>)
+    pub fn apply<W: Watch>(&mut self, clean: Clean<'_>, tally: &mut Tally<W>)
         requires open { IsOpen self.old }
         requires next { CarriesNext self.old clean }
         requires tally { tally.old < 2 ^ 64 - 1 }
-        ensures call { (out : List ℤ) → IterationRun self.old.region clean.steps self.old.machine self.new.machine out (out ++ clean.prints)
-            (end_of_iteration clean.closing) }
+        ensures call { (out : List ℤ) → IterationRun self.old.region clean.entry.steps self.old.machine self.new.machine out (out ++ clean.entry.prints)
+            (end_of_iteration clean.entry.closing) }
         ensures rest { self.new ≡ record self.old { machine = self.new.machine; count = self.old.count + 1 } }
         ensures tally { tally.new ≡ tally.old + 1 }
         ensures holds { (first : MachineState) → ClosesOnce first self.old.region → HoldsCommitted first self.old → HoldsCommitted first self.new }
@@ -121,7 +121,7 @@ impl<'p> Committed<'p> {
     }
 
     /// Counts the verdict on an iteration that was made step by step in place of [`Committed::apply`].
-    pub fn confirm<W: Watch>(&self, clean: Clean, tally: &mut Tally<W>)
+    pub fn confirm<W: Watch>(&self, clean: Clean<'_>, tally: &mut Tally<W>)
         requires made { (old : CommittedState) × CarriesNext old clean × Applied clean old self.now }
         requires tally { tally.old < 2 ^ 64 - 1 }
         ensures { tally.new ≡ tally.old + 1 }

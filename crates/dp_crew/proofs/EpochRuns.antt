@@ -19,7 +19,7 @@ use Rattle.dp_epoch.specs.declared.ledger.Ledger.{Ledger}
 use Rattle.dp_epoch.proofs.EpochBegins.{epoch_here, leaves_epoch}
 use Rattle.dp_crew.specs.EpochRan.{EpochRan, HasFollowed, HasRun}
 use Rattle.dp_edge.specs.Writing.{FaultsAfter, WritesFront}
-use Rattle.dp_epoch.specs.InEpoch.{AtEpoch, InEpoch, ToBegin, key_here}
+use Rattle.dp_epoch.specs.InEpoch.{AtEpoch, InEpoch, ToBegin, key_here, none_given}
 use Rattle.dp_epoch.specs.Prints.{prints_to_come}
 use Rattle.dp_edge.proofs.FrontLemmas.{front_nothing}
 use Rattle.dp_crew.proofs.StreamLemmas.{emits_front, emits_on}
@@ -142,11 +142,11 @@ left_anywhere key n first c account e hides =
 
 -- what comes of the epoch that begins behind what is committed
 abbrev pub coming_here : List ℤ → CommittedState → Prepared → Coming
-coming_here input c r = record { key = key_here r.program r.plan input c; given = 0 }
+coming_here input c r = none_given (key_here r.program r.plan input c)
 
 -- These are the verdicts of the epoch that begins behind the ledger.
 module _ (p : Program) (plan : Plan) (input : List ℤ) (ledger : Ledger) (verdicts : Coming)
-    (is : verdicts ≡ record { key = key_here p plan input ledger.committed; given = 0 }) where
+    (is : verdicts ≡ none_given (key_here p plan input ledger.committed)) where
   pub begins_here : (first : MachineState) → ToBegin p plan input first ledger.committed ledger.account →
       InEpoch verdicts.key verdicts.given first ledger.committed ledger.account
   begins_here first b =

@@ -19,7 +19,7 @@ use Rattle.dp_epoch.specs.Applied.{HasRoomForVerdicts}
 use Rattle.dp_epoch.specs.declared.ends.EpochEnd.TheVariants.{Left}
 use Rattle.dp_epoch.specs.declared.following.Followed.{Followed}
 use Rattle.dp_epoch.specs.Followed.{FollowsVerdict, IsFollowed}
-use Rattle.dp_epoch.specs.InEpoch.{ToBegin, key_here}
+use Rattle.dp_epoch.specs.InEpoch.{ToBegin, key_here, none_given}
 use Rattle.dp_epoch.specs.Progress.{Progress, report_before}
 use Rattle.dp_epoch.specs.Prints.{prints_from, prints_to_come}
 use Rattle.dp_epoch.proofs.Counting.{told_iterations}
@@ -67,7 +67,7 @@ module _ (region other : Prepared) (beside : RunsAs region other) (planned : IsP
       (sound_here region.program other.plan input first c _ (other_begins region.program region.plan other.plan input first c account b beside.1 fits))
 
   -- These are its verdicts.
-  module _ (ledger : Ledger) (verdicts : Coming) (is : verdicts ≡ record { key = key_here other.program other.plan input ledger.committed; given = 0 }) where
+  module _ (ledger : Ledger) (verdicts : Coming) (is : verdicts ≡ none_given (key_here other.program other.plan input ledger.committed)) where
     pub follows_here : (first : MachineState) → ToBegin region.program region.plan input first ledger.committed ledger.account →
         IsFollowed region.plan verdicts.key verdicts.given first ledger.committed ledger.account
     follows_here first b =

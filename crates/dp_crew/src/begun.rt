@@ -90,16 +90,9 @@ fn run_own_epoch<'p, 'v, 'u, E, R: Wait + Clock + Sync, K: Sink, G: Gate, W: Wat
         lent,
     )?;
     let mut polled = verdicts.polling(units);
-    crew.begin(None);
-    let end = run_epoch(
-        crew,
-        work.alloc,
-        may_leave,
-        &mut polled,
-        ledger,
-        sink,
-        tally,
-    );
+    let taken = &mut polled;
+    crew.begin(None, ledger.committed.steps());
+    let end = run_epoch(crew, work.alloc, may_leave, taken, ledger, sink, tally);
     crew.end(None, setter);
     end
 }

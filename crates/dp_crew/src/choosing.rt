@@ -1,40 +1,39 @@
 //! Whether a region's iterations are followed by its run plan, or go by the plan itself: by the clock.
 
-/// So many iterations are followed before the plan is tried.
+use crate::pace::{Pace, Stopwatch};
+use crate::trial::{Shown, Trial};
+
+/// So many iterations are followed before the plan is tried, or fewer, once they have taken so many nanoseconds.
 const FOLLOWED: u32 = 4_096;
 
-/// .. or fewer, once they have taken so many nanoseconds, by a clock that is looked at behind the first so many, and each time that they are
-/// twice as many.
 const LONG: u64 = 5_000_000;
 
-const FIRST: u32 = 32;
+/// The clock is looked at behind each so many of them. The first so many nanoseconds of an epoch aren't timed.
+const LOOK: u32 = 32;
 
-/// The first so many of an epoch are not timed: its units go to their threads, and the lanes between them are filled.
-const SETTLING: u32 = 2_048;
+const SETTLING: u64 = 500_000;
 
-/// The plan is tried for so many verdicts at most, or for some, once they have taken so many nanoseconds.
-const TRIED: u32 = 1_024;
-
-const SOME: u32 = 64;
-
-const ENOUGH: u64 = 4_000_000;
-
-/// The first so many of these fill its pipeline, or those of so many nanoseconds.
-const FILLING: u32 = 256;
-
-const FILLED: u64 = 1_000_000;
-
-/// What was quicker goes on for so many verdicts.
+/// What was quicker goes on for so many verdicts, and for twice as many each time that it is again, up to a limit.
 const SPAN: u32 = 65_536;
+
+const LONGEST_SPAN: u32 = 16_777_216;
+
+/// Behind each so many of them the clock is looked at, and behind so many nanoseconds a step may not have taken more than so
+/// many parts of a hundred of a followed one's time.
+const REVIEW: u32 = 256;
+
+const DOUBT: u64 = 16_000_000;
+
+const SLOWER: u64 = 110;
+
+/// Behind a trial that failed, iterations are followed for so many times as long before the next one, twice as long each time.
+const REST: u64 = 4;
 
 /// Fewer iterations aren't worth a pipeline of the run plan.
 const FEW: u32 = 16;
 
 /// Behind such ones the plan goes on for twice as many verdicts as the last time, and for so many at most.
 const LONGEST: u32 = 4_096;
-
-/// So many nanoseconds a trial may take besides twice the time of following.
-const SLACK: u64 = 100_000;
 
 /// How a region's iterations are followed.
 #[derive(Clone, Copy, PartialEq, Eq)]
@@ -45,31 +44,32 @@ pub(crate) enum Way {
     WholeLoops,
 }
 
-/// What is known of a region's speed, and what comes of it: so many iterations are followed, then so many verdicts of the plan
-/// come, and so on. Where the plan's units may have threads, following is timed at first, and the plan is tried behind it.
+/// What is known of a region's speed, and what comes of it: iterations are followed for a while, then so many verdicts of the
+/// plan come, and so on. Where the plan's units may have threads, following is timed at first, and the plan is tried behind it.
 #[derive(Drop)]
 pub(crate) struct Choice {
     /// Whether the plan may be quicker: its units have threads.
     may_try: bool,
-    /// So many iterations more are followed before the plan is tried.
+    /// The plan is tried behind so many iterations more, or behind so many nanoseconds of following.
     to_follow: u32,
+    patience: u64,
     /// So many verdicts of the plan come before iterations are followed.
     to_take: u32,
     /// So many come behind the next epoch that is left early.
     next_take: u32,
-    /// How many iterations were followed since the last trial, and in how many nanoseconds.
-    followed: u32,
-    spent: u64,
-    /// How many iterations of the epoch under way were followed, and behind how many of them it is timed.
+    /// How quick following was since the last trial.
+    alone: Pace,
+    /// How many iterations of the epoch under way were followed, whether they are timed, and whether they were enough.
     here: u32,
-    settled: u32,
-    /// The plan is tried, and so many of its verdicts came, of which so many filled its pipeline.
-    trying: bool,
-    tried: u32,
-    filling: u32,
-    /// When the epoch or the trial under way began, and when the trial's pipeline was filled.
-    begun: u64,
-    filled: u64,
+    settled: bool,
+    enough: bool,
+    /// The plan is tried, or was found quicker, and what is timed of that, or of the epoch under way.
+    trial: Option<Trial>,
+    quicker: bool,
+    watch: Stopwatch,
+    /// For how many verdicts it goes on where it is found quicker, and how long iterations are followed where it isn't.
+    span: u32,
+    rest: u64,
 }
 
 impl Choice {
@@ -77,18 +77,19 @@ impl Choice {
     pub(crate) fn new(may_try: bool) -> Choice {
         Choice {
             may_try,
-            to_follow: if may_try { FOLLOWED } else { u32::MAX },
+            to_follow: FOLLOWED,
+            patience: LONG,
             to_take: 0,
             next_take: 1,
-            followed: 0,
-            spent: 0,
+            alone: Pace::unknown(),
             here: 0,
-            settled: 0,
-            trying: false,
-            tried: 0,
-            filling: 0,
-            begun: 0,
-            filled: 0,
+            settled: false,
+            enough: false,
+            trial: None,
+            quicker: false,
+            watch: Stopwatch::start(0, 0),
+            span: SPAN,
+            rest: REST,
         }
     }
 
@@ -102,16 +103,29 @@ impl Choice {
 
     /// Whether the plan is tried now, by the clock.
     pub(crate) fn is_trying(&self) -> bool {
-        self.trying
+        self.trial.is_some()
     }
 
-    /// An epoch begins now, in this way of following or by the region's own plan. One of the run plan is timed.
-    pub(crate) fn begin(&mut self, way: Option<Way>, now: u64) {
+    /// An epoch begins now, in this way of following or by the region's own plan, where so many steps were made. One of the
+    /// run plan is timed.
+    pub(crate) fn begin(&mut self, way: Option<Way>, now: u64, steps: u64) {
         if let Some(Way::OneStage) = way {
+            if self.quicker {
+                self.begin_anew();
+            }
             self.here = 0;
-            self.settled = 0;
-            self.begun = now;
+            self.settled = false;
+            self.enough = false;
+            self.watch = Stopwatch::start(now, steps);
         }
+    }
+
+    /// What was quicker went on for long enough: it is tried again behind some iterations.
+    fn begin_anew(&mut self) {
+        self.quicker = false;
+        self.alone = Pace::unknown();
+        self.to_follow = FOLLOWED;
+        self.patience = LONG;
     }
 
     /// One more iteration was followed.
@@ -121,40 +135,46 @@ impl Choice {
 
     /// Whether the clock is to be looked at.
     pub(crate) fn looks(&self) -> bool {
-        self.here >= FIRST && self.here <= SETTLING && self.here.is_power_of_two()
+        self.may_try && self.here % LOOK == 0
     }
 
-    /// What is followed is timed from the last look on. Where it has taken long by now, the plan is tried at once.
-    pub(crate) fn look(&mut self, now: u64) {
-        if self.here >= SETTLING {
-            self.settled = self.here;
-            self.begun = now;
-        } else if self.to_follow == FOLLOWED && now.saturating_sub(self.begun) >= LONG {
-            self.to_follow = self.here;
+    /// What is followed is timed once it has settled. Where it has taken long by now, the plan is tried at once.
+    pub(crate) fn look(&mut self, now: u64, steps: u64) {
+        if !self.settled && self.watch.passed(now) >= SETTLING {
+            self.settled = true;
+            self.watch = Stopwatch::start(now, steps);
         }
+        self.enough = self.is_enough(now, steps);
+    }
+
+    fn is_enough(&self, now: u64, steps: u64) -> bool {
+        let timed = self.alone.and(self.watch.pace(now, steps));
+        self.may_try && (self.here >= self.to_follow || timed.nanoseconds() >= self.patience)
     }
 
     /// Whether the next iteration is followed.
     pub(crate) fn follows_on(&self) -> bool {
-        self.here < self.to_follow
+        !self.enough
     }
 
     /// The epoch is over now. Behind one of the run plan at least one verdict of the plan comes.
-    pub(crate) fn end(&mut self, way: Option<Way>, now: u64) {
+    pub(crate) fn end(&mut self, way: Option<Way>, now: u64, steps: u64) {
         if let Some(Way::OneStage) = way {
-            self.end_run(now);
+            if self.is_enough(now, steps) {
+                self.alone = self.alone.and(self.watch.pace(now, steps));
+                self.trial = Some(Trial::begin(now, steps));
+                self.next_take = 1;
+                self.to_take = self.span;
+            } else {
+                self.alone = self.alone.and(self.watch.pace(now, steps));
+                self.end_early();
+            }
         }
     }
 
-    fn end_run(&mut self, now: u64) {
-        let timed = self.here.saturating_sub(self.settled);
-        self.followed = self.followed.saturating_add(timed);
-        self.spent = self.spent.saturating_add(now.saturating_sub(self.begun));
+    /// An epoch of the run plan ended before it was long enough.
+    fn end_early(&mut self) {
         self.to_take = 1;
-        if self.here >= self.to_follow {
-            self.end_following(now);
-            return;
-        }
         self.to_follow = self.to_follow.saturating_sub(self.here);
         if self.here < FEW {
             self.to_take = self.next_take;
@@ -164,85 +184,62 @@ impl Choice {
         }
     }
 
-    /// As many iterations were followed as were to be: the plan is tried, if it may be quicker.
-    fn end_following(&mut self, now: u64) {
-        self.next_take = 1;
-        if self.may_try {
-            self.trying = true;
-            self.tried = 0;
-            self.filling = 0;
-            self.begun = now;
-            self.filled = now;
-            self.to_take = TRIED;
-        } else {
-            self.to_follow = u32::MAX;
-        }
-    }
-
     /// One more verdict of the plan came. Whether its epoch goes on.
     pub(crate) fn takes_on(&mut self) -> bool {
         self.to_take = self.to_take.saturating_sub(1);
         self.to_take > 0
     }
 
+    /// Whether it is to be looked whether the plan is quicker still.
+    pub(crate) fn doubts(&self) -> bool {
+        self.quicker && self.to_take % REVIEW == 0
+    }
+
+    /// Looks whether the plan was quicker for long enough.
+    pub(crate) fn review(&mut self, now: u64, steps: u64) {
+        let passed = self.watch.passed(now);
+        if passed < DOUBT {
+            return;
+        }
+        if self.watch.pace(now, steps).takes_less(SLOWER, self.alone) {
+            self.watch = Stopwatch::start(now, steps);
+        } else {
+            self.fail(passed);
+        }
+    }
+
     /// One more verdict of a trial came now. Whether its epoch goes on.
-    pub(crate) fn tries_on(&mut self, now: u64) -> bool {
-        self.tried = self.tried.saturating_add(1);
-        if self.is_filling(now) {
-            self.filling = self.tried;
-            self.filled = now;
-        } else if self.is_tried(now) {
-            let quicker = self.is_quicker(now);
-            self.end_trial(quicker);
-        } else if self.is_slow(now) {
-            self.end_trial(false);
+    pub(crate) fn tries_on(&mut self, now: u64, steps: u64) -> bool {
+        if let Some(trial) = &mut self.trial {
+            let shown = trial.take(now, steps, self.alone);
+            let passed = trial.passed(now);
+            match shown {
+                Shown::Nothing => {}
+                Shown::Quicker => self.succeed(now, steps),
+                Shown::Slower => self.fail(passed),
+            }
         }
         self.takes_on()
     }
 
-    /// The trial is over: what was quicker goes on.
-    fn end_trial(&mut self, quicker: bool) {
-        self.trying = false;
-        self.followed = 0;
-        self.spent = 0;
-        if quicker {
-            self.to_take = SPAN;
-            self.to_follow = FOLLOWED;
-        } else {
-            self.to_take = 1;
-            self.to_follow = SPAN;
-        }
+    /// The plan is quicker, and goes on.
+    fn succeed(&mut self, now: u64, steps: u64) {
+        self.trial = None;
+        self.quicker = true;
+        self.watch = Stopwatch::start(now, steps);
+        self.span = self.span.saturating_mul(2).min(LONGEST_SPAN);
+        self.rest = REST;
     }
 
-    /// Whether the trial's pipeline fills still: its threads end what they had under way, and its first batches are small.
-    fn is_filling(&self, now: u64) -> bool {
-        let soon = now.saturating_sub(self.begun) < FILLED;
-        self.tried <= FEW || (soon && self.tried <= FILLING)
-    }
-
-    /// How many verdicts of the trial came behind those that filled its pipeline.
-    fn timed(&self) -> u32 {
-        self.tried.saturating_sub(self.filling)
-    }
-
-    /// Whether the trial has shown enough.
-    fn is_tried(&self, now: u64) -> bool {
-        let long = now.saturating_sub(self.filled) >= ENOUGH;
-        self.tried >= TRIED || (long && self.timed() >= SOME)
-    }
-
-    /// Whether a verdict of the trial took less time than an iteration that was followed.
-    fn is_quicker(&self, now: u64) -> bool {
-        let took = now.saturating_sub(self.filled);
-        let timed = u64::from(self.timed());
-        took.saturating_mul(u64::from(self.followed)) < self.spent.saturating_mul(timed)
-    }
-
-    /// Whether the trial has taken twice the time of following already. Verdicts come by batches, so that a few may be late.
-    fn is_slow(&self, now: u64) -> bool {
-        let took = now.saturating_sub(self.filled).saturating_sub(SLACK);
-        let timed = u64::from(self.timed().saturating_add(FEW));
-        let limit = self.spent.saturating_mul(timed).saturating_mul(2);
-        took.saturating_mul(u64::from(self.followed)) > limit
+    /// The plan wasn't quicker, in so many nanoseconds: iterations are followed for a while.
+    fn fail(&mut self, tried: u64) {
+        self.trial = None;
+        self.quicker = false;
+        self.alone = Pace::unknown();
+        self.to_take = 1;
+        self.to_follow = u32::MAX;
+        self.patience = tried.saturating_mul(self.rest).max(LONG);
+        self.span = SPAN;
+        self.rest = self.rest.saturating_mul(2);
     }
 }

@@ -39,6 +39,8 @@ pub(crate) struct Crew<'s, 'u, E, R, G> {
     /// How many verdicts of the epoch were awaited, and since when.
     awaited: u32,
     since: u64,
+    /// How many steps were made, as far as was told.
+    steps: u64,
     /// Whether the region is run by a run plan, where it has one.
     choice: Choice,
     counts: Counts,
@@ -57,6 +59,7 @@ impl<'s, 'u, E, R, G> Drop for Crew<'s, 'u, E, R, G> {
             refused: _,
             awaited: _,
             since: _,
+            steps: _,
             choice: _,
             counts: _,
         } = self;
@@ -83,6 +86,7 @@ impl<'s, 'u, E, R: Wait + Clock + Sync, G: Gate> Crew<'s, 'u, E, R, G> {
             refused: false,
             awaited: 0,
             since: 0,
+            steps: 0,
             choice: Choice::new(!work.bells.is_empty()),
             counts: Counts::new(tally, nanoseconds(rt)),
         }
@@ -98,18 +102,20 @@ impl<'s, 'u, E, R: Wait + Clock + Sync, G: Gate> Crew<'s, 'u, E, R, G> {
         self.choice.follows(way)
     }
 
-    /// An epoch of the region's own plan begins, or one in this way of following, and the caller is alone. Where the plan is
-    /// tried, its units go to the threads at once.
-    pub(crate) fn begin(&mut self, way: Option<Way>) {
+    /// An epoch of the region's own plan begins, or one in this way of following, where so many steps were made, and the
+    /// caller is alone. Where the plan is tried, its units go to the threads at once.
+    pub(crate) fn begin(&mut self, way: Option<Way>, steps: u64) {
         let now = nanoseconds(self.rt);
+        self.steps = steps;
         self.counts.begin(way, now);
-        self.choice.begin(way, now);
+        self.choice.begin(way, now, steps);
         self.awaited = if self.choice.is_trying() { ALONE } else { 0 };
         self.since = now;
     }
 
-    /// One more iteration was followed. Whether the next one is.
-    pub(crate) fn follows_on(&mut self, way: Way) -> bool {
+    /// One more iteration was followed, and so many steps are made by now. Whether the next one is.
+    pub(crate) fn follows_on(&mut self, way: Way, steps: u64) -> bool {
+        self.steps = steps;
         self.counts.follow();
         match way {
             Way::OneStage => self.goes_on(),
@@ -120,8 +126,7 @@ impl<'s, 'u, E, R: Wait + Clock + Sync, G: Gate> Crew<'s, 'u, E, R, G> {
     fn goes_on(&mut self) -> bool {
         self.choice.follow();
         if self.choice.looks() {
-            let now = nanoseconds(self.rt);
-            self.choice.look(now);
+            self.choice.look(nanoseconds(self.rt), self.steps);
         }
         self.choice.follows_on()
     }
@@ -132,20 +137,22 @@ impl<'s, 'u, E, R: Wait + Clock + Sync, G: Gate> Crew<'s, 'u, E, R, G> {
         looks && nanoseconds(self.rt).saturating_sub(self.since) >= PATIENCE
     }
 
-    /// One more iteration of the epoch is committed. Whether the epoch is left, if it may be.
-    pub(crate) fn leaves(&mut self, may_leave: bool) -> bool
+    /// One more iteration of the epoch is committed, and so many steps are made by now. Whether the epoch is left, if it may be.
+    pub(crate) fn leaves(&mut self, may_leave: bool, steps: u64) -> bool
         ensures { result ≡ true → may_leave ≡ true }
     {
+        self.steps = steps;
         may_leave && !self.takes_on()
     }
 
     fn takes_on(&mut self) -> bool {
         if self.choice.is_trying() {
-            let now = nanoseconds(self.rt);
-            self.choice.tries_on(now)
-        } else {
-            self.choice.takes_on()
+            return self.choice.tries_on(nanoseconds(self.rt), self.steps);
         }
+        if self.choice.doubts() {
+            self.choice.review(nanoseconds(self.rt), self.steps);
+        }
+        self.choice.takes_on()
     }
 
     /// One more verdict of the epoch is awaited. Behind the first ones its units are handed to the threads.
@@ -218,7 +225,7 @@ impl<'s, 'u, E, R: Wait + Clock + Sync, G: Gate> Crew<'s, 'u, E, R, G> {
     pub(crate) fn end(&mut self, way: Option<Way>, mut setter: StopSetter) {
         let now = nanoseconds(self.rt);
         self.counts.end(now);
-        self.choice.end(way, now);
+        self.choice.end(way, now, self.steps);
         if self.awaited > ALONE {
             setter.set(self.rt);
             ring_all(self.bells);

@@ -43,7 +43,7 @@ pub(crate) fn run_epoch<'p, 'v, 'u, E, R: Wait + Clock + Sync, K: Sink, G: Gate,
         flush_if_many(alloc, &mut ledger.waiting, sink)?;
         match taken {
             Taken::Committed => {
-                if crew.leaves(may_leave) {
+                if crew.leaves(may_leave, ledger.committed.steps()) {
                     return Ok((ledger, EpochEnd::Left));
                 }
             }

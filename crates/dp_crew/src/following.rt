@@ -77,18 +77,10 @@ fn follow_epoch<'p, 'v, 'u, E, R: Wait + Clock + Sync, K: Sink, G: Gate, W: Watc
         work.alloc, other, work.input, work.size, begun, lent,
     )?;
     let mut polled = verdicts.polling(units);
+    let taken = &mut polled;
     let words = work.region.plan().words;
-    crew.begin(Some(way));
-    let followed = follow_verdicts(
-        crew,
-        way,
-        work.alloc,
-        words,
-        &mut polled,
-        ledger,
-        sink,
-        tally,
-    );
+    crew.begin(Some(way), ledger.committed.steps());
+    let followed = follow_verdicts(crew, way, work.alloc, words, taken, ledger, sink, tally);
     crew.end(Some(way), setter);
     followed
 }
@@ -146,7 +138,7 @@ fn follow_verdicts<'p, 'v, 'u, E, R: Wait + Clock + Sync, K: Sink, G: Gate, W: W
         flush_if_many(alloc, &mut ledger.waiting, sink)?;
         match followed {
             Followed::Committed => {
-                if !crew.follows_on(way) {
+                if !crew.follows_on(way, ledger.committed.steps()) {
                     return Ok(ledger);
                 }
             }

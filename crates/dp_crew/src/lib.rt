@@ -9,12 +9,14 @@ mod crew;
 mod epoch;
 mod epochs;
 mod following;
+mod pace;
 mod recover;
 mod region;
 mod settling;
 mod threads;
 mod together;
 mod trays;
+mod trial;
 mod waiting;
 mod work;
 

@@ -15,6 +15,9 @@ use Rattle.dp_tree.specs.Iteration.{stands_at_head, places, start, stop_from, ev
 use Rattle.dp_tree.specs.IterationLaws.{events_of_first}
 use Rattle.dp_semantics.specs.EpochKey.{EpochKey}
 use Rattle.dp_semantics.specs.EpochVerdicts.{Carried, Commit, Again, verdict_at}
+use Rattle.dp_semantics.specs.EpochVerdicts.{Verdict as Decided}
+use Rattle.dp_judge.specs.declared.verdict.Verdict.{Verdict}
+use Rattle.dp_judge.specs.Told.{SaysDecided}
 use Rattle.dp_meaning.specs.declared.ends.IterEnd.TheVariants as iter_end
 use Rattle.dp_meaning.specs.MachineState.{MachineState, fuel_left, rest_of_run}
 use Rattle.dp_meaning.specs.IterationRun.{IterationRun}
@@ -36,6 +39,10 @@ use Rattle.dp_epoch.proofs.Counting.{told_iterations}
 use Rattle.dp_epoch.proofs.EpochSteps.{carries, ended_here, epoch_on, going, report_next, watching_on}
 use Rattle.dp_epoch.proofs.Done.{closed_done, begun_is}
 use Rattle.dp_epoch.proofs.Printing.{next_prints}
+
+-- What is said of the verdict that was given last is so of the one that is shown for it.
+pub told_so : (key : EpochKey) (decided : Decided) (shown given : Verdict) → shown ≡ given → SaysDecided key given decided → SaysDecided key shown decided
+told_so key decided shown given is says = subst (λ (v : Verdict). SaysDecided key v decided) (sym is) says
 
 spent_trace : (p : Program) (input : List ℤ) (c : Config) → (run_of p input 0 c).trace ≡ []
 unfolding run_of

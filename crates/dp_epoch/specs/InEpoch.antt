@@ -11,6 +11,8 @@ use Rattle.dp_semantics.specs.Verdict.{CleanSince}
 use Rattle.dp_run_plan.specs.RunPlan.{hides_nothing}
 use Rattle.dp_meaning.specs.MachineState.{MachineState}
 use Rattle.dp_commit.specs.CommittedState.{CommittedState, region_run, steps_of_first}
+use Rattle.dp_judge.specs.declared.verdict.Verdict.TheVariants.{NoMemory}
+use Rattle.dp_pipeline.specs.Coming.{Coming}
 use Rattle.dp_epoch.specs.declared.account.Account.{Account}
 use Rattle.dp_epoch.specs.declared.ends.EpochEnd.{EpochEnd}
 use Rattle.dp_epoch.specs.declared.ends.EpochEnd.TheVariants.{Closed, Left, Unclean}
@@ -80,6 +82,10 @@ pub record BeginsAt (key : EpochKey) (given : ℕ) (c : CommittedState) : Type 0
 abbrev pub key_here : Program → Plan → List ℤ → CommittedState → EpochKey
 key_here p plan input c =
     record { program = p; plan = plan; input = input; first = c.count; base = c.machine.config.cells; steps = c.machine.steps; fuel = c.machine.fuel }
+
+-- what comes of an epoch that depends on this, and of which no verdict was given
+abbrev pub none_given : EpochKey → Coming
+none_given key = record { key = key; given = 0; last = NoMemory }
 
 -- how the re-execution of the iteration that broke an epoch comes out: a new epoch is to begin, or the region has ended
 abbrev pub AfterRecovery : Plan → MachineState → CommittedState → Account → Option RegionEnd → Type 0

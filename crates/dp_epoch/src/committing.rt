@@ -19,17 +19,17 @@ impl<'p, 'v> Ledger<'p, 'v> {
     pub fn commit<W: Watch>(
         &mut self,
         alloc: Global,
-        clean: Clean,
+        clean: Clean<'_>,
         tally: &mut Tally<W>,
     ) -> Result<(), NoMemory>
         requires stands { (plan : Plan) × (first : MachineState) × Progress plan first self.old.committed self.old.account }
         requires next { CarriesNext self.old.committed clean }
         requires tally { tally.old < 2 ^ 64 - 1 }
-        ensures ok { OnOk result (Applied clean self.old.committed self.new.committed) }
+        ensures ok { OnOk result (Applied clean.entry self.old.committed self.new.committed) }
         ensures account { OnOk result (CountsClean self.old.committed self.new.committed self.old.account self.new.account) }
-        ensures waiting { OnOk result (self.new.waiting ≡ self.old.waiting ++ clean.prints) }
+        ensures waiting { OnOk result (self.new.waiting ≡ self.old.waiting ++ clean.entry.prints) }
         ensures tally { OnOk result (tally.new ≡ tally.old + 1) }
-        ensures wanting { OnErr result ((0 < length clean.prints) ⊎ (is_some self.old.account.views ≡ true)) }
+        ensures wanting { OnErr result ((0 < length clean.entry.prints) ⊎ (is_some self.old.account.views ≡ true)) }
     {
         if self.account.is_watched() {
             return self.retrace(alloc, clean, tally);
@@ -38,16 +38,16 @@ impl<'p, 'v> Ledger<'p, 'v> {
     }
 
     /// Commits it at once.
-    fn apply<W: Watch>(&mut self, clean: Clean, tally: &mut Tally<W>) -> Result<(), NoMemory>
+    fn apply<W: Watch>(&mut self, clean: Clean<'_>, tally: &mut Tally<W>) -> Result<(), NoMemory>
         requires open { IsOpen self.old.committed }
         requires unwatched { is_some self.old.account.views ≡ false }
         requires next { CarriesNext self.old.committed clean }
         requires tally { tally.old < 2 ^ 64 - 1 }
-        ensures ok { OnOk result (Applied clean self.old.committed self.new.committed) }
+        ensures ok { OnOk result (Applied clean.entry self.old.committed self.new.committed) }
         ensures account { OnOk result (CountsClean self.old.committed self.new.committed self.old.account self.new.account) }
-        ensures waiting { OnOk result (self.new.waiting ≡ self.old.waiting ++ clean.prints) }
+        ensures waiting { OnOk result (self.new.waiting ≡ self.old.waiting ++ clean.entry.prints) }
         ensures tally { OnOk result (tally.new ≡ tally.old + 1) }
-        ensures wanting { OnErr result (0 < length clean.prints) }
+        ensures wanting { OnErr result (0 < length clean.entry.prints) }
     {
         wait(&mut self.waiting, clean.prints())?;
         self.committed.apply(clean, tally);
@@ -59,15 +59,15 @@ impl<'p, 'v> Ledger<'p, 'v> {
     fn retrace<W: Watch>(
         &mut self,
         alloc: Global,
-        clean: Clean,
+        clean: Clean<'_>,
         tally: &mut Tally<W>,
     ) -> Result<(), NoMemory>
         requires stands { (plan : Plan) × (first : MachineState) × Progress plan first self.old.committed self.old.account }
         requires next { CarriesNext self.old.committed clean }
         requires tally { tally.old < 2 ^ 64 - 1 }
-        ensures ok { OnOk result (Applied clean self.old.committed self.new.committed) }
+        ensures ok { OnOk result (Applied clean.entry self.old.committed self.new.committed) }
         ensures account { OnOk result (CountsClean self.old.committed self.new.committed self.old.account self.new.account) }
-        ensures waiting { OnOk result (self.new.waiting ≡ self.old.waiting ++ clean.prints) }
+        ensures waiting { OnOk result (self.new.waiting ≡ self.old.waiting ++ clean.entry.prints) }
         ensures tally { OnOk result (tally.new ≡ tally.old + 1) }
     {
         let _end = execute(alloc, self)?;

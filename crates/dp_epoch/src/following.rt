@@ -41,7 +41,8 @@ pub fn follow<R: Wait + Clock, V: Verdicts, W: Watch>(
     ensures followed { IfOk result (λ followed. FollowsVerdict words (V.key verdicts.old) (V.given verdicts.old) ledger.old ledger.new followed
         tally.old tally.new) }
 {
-    match verdicts.next(rt) {
+    verdicts.next(rt);
+    match verdicts.verdict() {
         Verdict::Clean(clean) => {
             let closing = clean.closing();
             if closing {

@@ -1,7 +1,7 @@
 //! The pipeline of the epoch that begins behind what is committed.
 ghost use Rattle.std.specs.Prelude.{◌≡◌, ◌≤◌, IfOk};
 ghost use Rattle.dp_semantics.specs.EpochCauses.{IsSound};
-ghost use Rattle.dp_epoch.specs.InEpoch.{key_here};
+ghost use Rattle.dp_epoch.specs.InEpoch.{key_here, none_given};
 
 use crate::ledger::Ledger;
 use dp_base::NoMemory;
@@ -23,7 +23,7 @@ pub fn pipeline_here<'u, 'p>(
     requires fuel { ledger.now.committed.machine.fuel ≤ 1000000000 }
     ensures setter { setter.new ≡ setter.old }
     ensures verdicts { IfOk result
-        (λ made. made.verdicts ≡ record { key = key_here region.now.program region.now.plan input.now ledger.now.committed; given = 0 }) }
+        (λ made. made.verdicts ≡ none_given (key_here region.now.program region.now.plan input.now ledger.now.committed)) }
 {
     let committed = &ledger.committed;
     let begin = Begin {

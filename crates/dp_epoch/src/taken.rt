@@ -39,7 +39,8 @@ pub fn take<R: Wait + Clock, V: Verdicts, W: Watch>(
     ensures given { V.given verdicts.new ≡ V.given verdicts.old + 1 }
     ensures taken { IfOk result (λ taken. TakesVerdict (V.key verdicts.old) (V.given verdicts.old) ledger.old ledger.new taken tally.old tally.new) }
 {
-    match verdicts.next(rt) {
+    verdicts.next(rt);
+    match verdicts.verdict() {
         Verdict::Clean(clean) => {
             let closing = clean.closing();
             ledger.commit(alloc, clean, tally)?;

@@ -144,14 +144,6 @@ module _ (t u : ToldBatch) (whole : IsUngiven t) (given : u.given ≡ t.given) (
       ∙ more_cleans t.parts t.stores more t.prints others last is is_prints whole.stores whole.prints
       ∙ ap (λ (vs : List Verdict). vs ++ part last more others ∷ []) (sym (open_cleans t whole))
 
--- where a part stands a verdict does
-pub next_there : (t : ToldBatch) (p : Part) → slice_get t.parts t.given ≡ Some p → (v : Verdict) × (rest : List Verdict) × (left_to_give t ≡ v ∷ rest)
-next_there t p is = (
-  part p (take p.stores (drop t.stores_given t.stores)) (take p.prints (drop t.prints_given t.prints)),
-  cleans_from (drop (suc t.given) t.parts) (drop p.stores (drop t.stores_given t.stores)) (drop p.prints (drop t.prints_given t.prints)) ++ end_verdicts t.end,
-  ap (λ (ps : List Part). cleans_from ps (drop t.stores_given t.stores) (drop t.prints_given t.prints) ++ end_verdicts t.end) (rest_at t.parts t.given p is),
-)
-
 -- the next place
 pub one_on : {X : Type 0} (xs : List X) (i : ℕ) (x : X) → slice_get xs i ≡ Some x → min (i + 1) (length xs) ≡ suc i
 one_on [] i x is = absurd (cc is)

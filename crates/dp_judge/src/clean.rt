@@ -1,31 +1,36 @@
 //! What a verdict carries of a clean iteration.
 ghost use Rattle.std.specs.Prelude.{◌≡◌};
 
-use dp_base::{Row, StoreOf};
+use dp_base::StoreOf;
 use std::marker::Model;
 
 /// A clean iteration: stores that lead to the memory behind it, its prints in the source's order, its number of steps, and
-/// whether it is the closing one. Only a judgement makes one, and it isn't copied.
+/// whether it is the closing one. Only a judgement makes one, and it isn't copied; it lends what the batch of verdicts holds.
 #[derive(Drop)]
-pub struct Clean {
-    stores: Row<StoreOf>,
-    prints: Row<i64>,
+pub struct Clean<'v> {
+    stores: &'v [StoreOf],
+    prints: &'v [i64],
     steps: u64,
     closing: bool,
 }
 
-impl Model for Clean {
+impl<'v> Model for Clean<'v> {
     ghost use Rattle.dp_semantics.specs.EpochVerdicts.{Carried};
 
     ghost Value = { Carried };
 
-    ghost view = { λ c. record { stores = c.stores; prints = c.prints; steps = c.steps; closing = c.closing } };
+    ghost view = { λ c. record { stores = c.stores.now; prints = c.prints.now; steps = c.steps; closing = c.closing } };
 }
 
-impl Clean {
+impl<'v> Clean<'v> {
     /// What was agreed on.
-    pub(crate) fn agree(stores: Row<StoreOf>, prints: Row<i64>, steps: u64, closing: bool) -> Clean
-        ensures { result ≡ record { stores = stores; prints = prints; steps = steps; closing = closing } }
+    pub(crate) fn agree(
+        stores: &'v [StoreOf],
+        prints: &'v [i64],
+        steps: u64,
+        closing: bool,
+    ) -> Clean<'v>
+        ensures { result ≡ record { stores = stores.now; prints = prints.now; steps = steps; closing = closing } }
     {
         Clean {
             stores,
@@ -36,17 +41,17 @@ impl Clean {
     }
 
     /// Stores that lead to the memory behind the iteration.
-    pub fn stores(&self) -> &[StoreOf]
+    pub fn stores(&self) -> &'v [StoreOf]
         ensures { result.now ≡ self.now.stores }
     {
-        self.stores.as_slice()
+        self.stores
     }
 
     /// The printed numbers, in the source's order.
-    pub fn prints(&self) -> &[i64]
+    pub fn prints(&self) -> &'v [i64]
         ensures { result.now ≡ self.now.prints }
     {
-        self.prints.as_slice()
+        self.prints
     }
 
     /// The number of steps.

@@ -1,10 +1,10 @@
 //! What is decided of a batch, verdict by verdict.
-ghost use Rattle.std.specs.Prelude.{◌≡◌, ◌++◌, ◌∷◌, [], length, slice_get, ◌≤◌, Some, IfOk, MatchOption, OnErr, OnOk};
+ghost use Rattle.std.specs.Prelude.{◌≡◌, ◌++◌, ◌∷◌, [], length, slice_get, true, ◌≤◌, Some, OnErr, OnOk};
 ghost use Rattle.std.specs.List.{list_all};
 ghost use Rattle.dp_judge.specs.Told.{goes_on_behind};
 ghost use Rattle.dp_judge.specs.declared.verdict.Verdict.TheVariants as verdict;
-ghost use Rattle.dp_judge.specs.Decided.{IsNextVerdict, cleans, end_verdicts, left_to_give};
-ghost use Rattle.dp_judge.specs.steps.Adding.{IsUngiven, carried_by};
+ghost use Rattle.dp_judge.specs.Decided.{GivesNext, carried_by, cleans, end_verdicts, last_given, left_to_give};
+ghost use Rattle.dp_judge.specs.steps.Adding.{IsUngiven};
 
 use crate::clean::Clean;
 use crate::parts::{is_over, left_from, none_closes, part_of, place_behind};
@@ -32,9 +32,21 @@ pub(crate) enum ToldEnd {
     NoMemory,
 }
 
+/// The verdict that was given last.
+#[derive(Clone, Copy)]
+pub(crate) enum Last {
+    /// On the clean iteration of this part, whose stores and prints begin there.
+    Clean {
+        part: Part,
+        stores: usize,
+        prints: usize,
+    },
+    Unclean,
+    NoMemory,
+}
+
 /// The verdicts on a batch: the stores and prints of all clean iterations, one behind the other, and how many are each one's.
 pub struct ToldBatch {
-    alloc: Global,
     stores: Row<StoreOf>,
     prints: Row<i64>,
     parts: Row<Part>,
@@ -44,13 +56,13 @@ pub struct ToldBatch {
     /// Where the stores and the prints of the next one begin.
     stores_given: usize,
     prints_given: usize,
+    last: Last,
 }
 
 // By hand, so that a crate above doesn't prove again how its rows are dropped.
 impl Drop for ToldBatch {
     fn drop(self) {
         let ToldBatch {
-            alloc: _,
             stores: _,
             prints: _,
             parts: _,
@@ -58,6 +70,7 @@ impl Drop for ToldBatch {
             given: _,
             stores_given: _,
             prints_given: _,
+            last: _,
         } = self;
     }
 }
@@ -66,9 +79,9 @@ impl ToldBatch {
     /// No verdict. It takes no memory until there is one.
     pub fn new(alloc: Global) -> ToldBatch
         ensures left { left_to_give result ≡ [] }
+        ensures given { last_given result ≡ verdict.NoMemory }
     {
         ToldBatch {
-            alloc,
             stores: Row::new(alloc),
             prints: Row::new(alloc),
             parts: Row::new(alloc),
@@ -76,6 +89,7 @@ impl ToldBatch {
             given: 0,
             stores_given: 0,
             prints_given: 0,
+            last: Last::NoMemory,
         }
     }
 
@@ -92,6 +106,7 @@ impl ToldBatch {
         self.given = 0;
         self.stores_given = 0;
         self.prints_given = 0;
+        self.last = Last::NoMemory;
     }
 
     /// One clean iteration more.
@@ -136,22 +151,19 @@ impl ToldBatch {
         stays && over
     }
 
-    /// What is carried of the next clean iteration.
-    fn carried(&self, part: Part) -> Result<Clean, NoMemory>
-        ensures { IfOk result (λ v. v ≡ carried_by self.now part) }
+    /// What is carried of the clean iteration of this part, whose stores and prints begin there.
+    fn carried(&self, part: Part, stores: usize, prints: usize) -> Clean<'_>
+        ensures { result ≡ carried_by part stores prints self.now.stores self.now.prints }
     {
-        let stores = part_of(self.stores.as_slice(), self.stores_given, part.stores);
-        let prints = part_of(self.prints.as_slice(), self.prints_given, part.prints);
-        let stores = Row::from_slice(self.alloc, stores)?;
-        let prints = Row::from_slice(self.alloc, prints)?;
-        Ok(Clean::agree(stores, prints, part.steps, part.closing))
+        let stores = part_of(self.stores.as_slice(), stores, part.stores);
+        let prints = part_of(self.prints.as_slice(), prints, part.prints);
+        Clean::agree(stores, prints, part.steps, part.closing)
     }
 
-    /// The next one is given.
+    /// The next one is given, on the clean iteration of this part.
     fn pass(&mut self, part: Part)
         requires { slice_get self.old.parts self.old.given ≡ Some part }
-        ensures next { cleans self.old ≡ verdict.Clean (carried_by self.old part) ∷ cleans self.new }
-        ensures end { self.new.end ≡ self.old.end }
+        ensures { GivesNext true self.old self.new }
     {
         let parts = self.parts.len();
         let stores = self.stores.len();
@@ -159,52 +171,62 @@ impl ToldBatch {
         let given = place_behind(self.given, 1, parts);
         let stores_given = place_behind(self.stores_given, part.stores, stores);
         let prints_given = place_behind(self.prints_given, part.prints, prints);
+        self.last = Last::Clean {
+            part,
+            stores: self.stores_given,
+            prints: self.prints_given,
+        };
         self.given = given;
         self.stores_given = stores_given;
         self.prints_given = prints_given;
     }
 
-    /// The next verdict, on the clean iteration of this part.
-    fn next_clean(&mut self, part: Part) -> Verdict
-        requires { slice_get self.old.parts self.old.given ≡ Some part }
-        ensures { IsNextVerdict self.old self.new result }
-    {
-        match self.carried(part) {
-            Ok(clean) => {
-                self.pass(part);
-                Verdict::Clean(clean)
-            }
-            Err(_) => {
-                self.clear();
-                Verdict::NoMemory
-            }
-        }
-    }
-
-    /// The verdict behind those that are clean, if there is one.
-    fn next_end(&mut self) -> Option<Verdict>
+    /// What stands behind the clean iterations is given, if there is something.
+    fn next_end(&mut self) -> bool
         requires { length self.old.parts ≤ self.old.given }
-        ensures { MatchOption result ((left_to_give self.old ≡ []) × (left_to_give self.new ≡ [])) (λ v. IsNextVerdict self.old self.new v) }
+        ensures { GivesNext result self.old self.new }
     {
         let end = self.end;
         self.end = ToldEnd::Over;
         match end {
-            ToldEnd::Over => None,
-            ToldEnd::Unclean => Some(Verdict::Unclean),
-            ToldEnd::NoMemory => Some(Verdict::NoMemory),
+            ToldEnd::Over => false,
+            ToldEnd::Unclean => {
+                self.last = Last::Unclean;
+                true
+            }
+            ToldEnd::NoMemory => {
+                self.last = Last::NoMemory;
+                true
+            }
         }
     }
 
-    /// The next verdict. Where memory is wanting for it, nothing follows.
-    pub fn next(&mut self) -> Option<Verdict>
-        ensures { MatchOption result ((left_to_give self.old ≡ []) × (left_to_give self.new ≡ [])) (λ v. IsNextVerdict self.old self.new v) }
+    /// Whether there is a further verdict, which is the last one given then.
+    pub fn next(&mut self) -> bool
+        ensures { GivesNext result self.old self.new }
     {
         match self.parts.get(self.given) {
             Some(part) => {
                 let part = *part;
-                Some(self.next_clean(part))
+                self.pass(part);
+                true
             }
             None => self.next_end(),
+        }
+    }
+
+    /// The verdict that was given last: want of memory before the first.
+    pub fn verdict(&self) -> Verdict<'_>
+        ensures { result ≡ last_given self.now }
+    {
+        match self.last {
+            Last::Clean {
+                part,
+                stores,
+                prints,
+            } => Verdict::Clean(self.carried(part, stores, prints)),
+            Last::Unclean => Verdict::Unclean,
+            Last::NoMemory => Verdict::NoMemory,
         }
     }
 }

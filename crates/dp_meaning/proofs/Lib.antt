@@ -1,5 +1,6 @@
 pub mod Names
 pub mod MemoryLemmas
+pub mod ClearingLemmas
 pub mod ActLemmas
 pub mod FollowedLemmas
 pub mod RestLemmas

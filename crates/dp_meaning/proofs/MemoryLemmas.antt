@@ -1,14 +1,9 @@
 -- Stores and clearing.
-use Rattle.dp_meaning.proofs.Names.{◌≡◌, refl, ◌∙◌, ap, ℕ, ◌+◌, ◌<◌, List, [], ◌∷◌, ◌++◌, replicate, drop, get_or, length, slice_set, if◌then◌else◌, Option}
-use Rattle.dp_meaning.proofs.Names.{Some, None, ℤ, pos, length-set, StoreOf, Stmt, out-Stmt, Program, VarInfo, start_cells, is_local_of, clear_locals}
+use Rattle.dp_meaning.proofs.Names.{◌≡◌, refl, ◌∙◌, ap, ℕ, ◌+◌, ◌<◌, List, [], ◌∷◌, ◌++◌, replicate, drop, get_or, length, slice_set, Option}
+use Rattle.dp_meaning.proofs.Names.{Some, None, ℤ, length-set, StoreOf, Stmt, out-Stmt, Program, VarInfo, start_cells}
 use Rattle.dp_meaning.proofs.Names.{region_number, clear_one, cleared_leaving, with_stores, first_given, first_region}
 use Rattle.dp_room.proofs.ListLemmas.{next_of}
 use Rattle.dp_tree.proofs.InMain.{cleared_length}
-
--- one variable more is cleared
-pub clear_next : (r : ℕ) (vars : List VarInfo) (i : ℕ) (x : VarInfo) (cells : List ℤ) → i < length vars → x ≡ get_or vars i x →
-    clear_locals r (drop i vars) cells ≡ clear_locals r (drop (i + 1) vars) (if is_local_of r x.scope then slice_set cells x.first.0 (pos 0) else cells)
-clear_next r vars i x cells h is = ap (λ (xs : List VarInfo). clear_locals r xs cells) (next_of vars i x h is)
 
 -- one store more is made
 pub store_next : (list : List StoreOf) (i : ℕ) (x : StoreOf) (cells : List ℤ) → i < length list → x ≡ get_or list i x →
@@ -37,8 +32,6 @@ length-clear_one p (Some r) cells = cleared_length r p.vars cells
 
 pub length-cleared_leaving : (p : Program) (xs : List Stmt) (cells : List ℤ) → length (cleared_leaving p xs cells) ≡ length cells
 length-cleared_leaving p xs cells = ap length (leaving p xs cells) ∙ length-clear_one p (first_region xs) cells
-
-pub ruleset clears = (clear_next)
 
 pub ruleset lengths = (cleared_length, length-with_stores, length-cleared_leaving)
 

@@ -3,6 +3,7 @@
 #![tactic(auto)]
 
 mod act;
+mod clearing;
 mod code;
 mod ends;
 mod flat;

@@ -1,34 +1,14 @@
 //! Changes of a program's memory.
-ghost use Rattle.std.specs.Prelude.{◌≡◌, if◌then◌else◌, pos, slice_set, length, ◌^◌, ◌<◌, IfOk};
+ghost use Rattle.std.specs.Prelude.{◌≡◌, length, ◌^◌, ◌<◌, IfOk};
 ghost use Rattle.dp_semantics.specs.Told.{with_stores};
-ghost use Rattle.dp_tree.specs.Step as definition;
 ghost use Rattle.dp_tree.specs.Trace as definition_of_runs;
 
 use dp_base::{Cells, NoMemory, StoreOf};
 use dp_tree::VarInfo;
 use std::alloc::Global;
 
-#[inline(always)]
-fn clear_local(region: u32, info: &VarInfo, cells: &mut Cells)
-    ensures { cells.new ≡ (if definition.is_local_of region info.now.scope then slice_set cells.old info.now.first.0 (pos 0) else cells.old) }
-{
-    if info.scope.is_local_of(region) {
-        cells.set(info.first, 0);
-    }
-}
-
-/// The body locals of the region read 0 afterwards.
-#[inline(always)]
-#[tactic(auto, using(crate::proofs::MemoryLemmas::clears))]
-pub(crate) fn clear_locals(region: u32, vars: &[VarInfo], cells: &mut Cells)
-    ensures { cells.new ≡ definition.clear_locals region vars.now cells.old }
-{
-    for info in vars {
-        clear_local(region, info, cells);
-    }
-}
-
 /// These stores, one after the other.
+#[inline(always)]
 #[tactic(auto, using(crate::proofs::MemoryLemmas::makes))]
 pub(crate) fn make_stores(stores: &[StoreOf], cells: &mut Cells)
     ensures { cells.new ≡ with_stores stores.now cells.old }

@@ -1,12 +1,11 @@
 -- Verdicts come out of their lane together, and are given one by one.
-use Rattle.std.proofs.Common.{arith, ◌≡◌, ◌<◌, ◌^◌, ◌⊎◌, inl, inr, ℕ, suc, ◌+◌, false, List, [], ◌∷◌, length, Option, Some, None, MatchOption, sym, ap, ◌∙◌}
-use Rattle.std.proofs.Common.{subst, refl}
+use Rattle.std.proofs.Common.{arith, ◌≡◌, ◌<◌, ◌^◌, Bool, true, false, ℕ, suc, ◌+◌, List, [], ◌∷◌, length, sym, ap, ◌∙◌, subst, refl}
+use Rattle.dp_semantics.specs.EpochKey.{EpochKey}
 use Rattle.dp_semantics.specs.EpochVerdicts.{verdict_at}
 use Rattle.dp_lane.specs.declared.rule.View.{View}
 use Rattle.dp_lane.specs.declared.rule.View.TheVariants.{Fresh, Sender, Taker, Spent}
 use Rattle.dp_lane.specs.Views.{TakesItem}
 use Rattle.dp_judge.specs.declared.verdict.Verdict.{Verdict}
-use Rattle.dp_judge.specs.declared.verdict.Verdict.TheVariants as verdict
 use Rattle.dp_judge.specs.Told.{SaysDecided}
 use Rattle.dp_lean_region.specs.Line.{IsLineOf}
 use Rattle.dp_judge.specs.Decided.{left_to_give}
@@ -15,56 +14,44 @@ use Rattle.dp_pipeline.specs.declared.judged.Judged.{Judged}
 use Rattle.dp_pipeline.specs.declared.keys.LaneKey.{LaneKey}
 use Rattle.dp_pipeline.specs.declared.told.Told.{Told}
 use Rattle.dp_pipeline.specs.Carried.{lean_of, IsTold, IsJudged, is_over}
-use Rattle.dp_pipeline.specs.Coming.{VerdictComes, coming_on}
+use Rattle.dp_pipeline.specs.Coming.{Coming, VerdictComes, ComesNext, key_on, coming_on}
 use Rattle.dp_pipeline.specs.Keys.{key_of}
 use Rattle.dp_pipeline.specs.Lanes.{GoesBack}
-use Rattle.dp_pipeline.specs.Left.{left_of, GivesOne, GivesNext, Awaits, AwaitsOn}
+use Rattle.dp_pipeline.specs.Left.{left_of, last_of, GivesOne, GivesNext, Awaits, AwaitsOn}
 use Rattle.dp_pipeline.specs.Sizes.{batch_begins, size, EachFrom}
 
-says_by : (key : UnitsKey) (n : ℕ) (first v : Verdict) → IsTold key n first → (v ≡ first) ⊎ (v ≡ verdict.NoMemory) → IsTold key n v
-says_by key n first v told (inl same) = subst (IsTold key n) (sym same) told
-says_by key n first v told (inr wanting) = subst (IsTold key n) (sym wanting) tt
+-- what comes on the end of a lane, with the verdicts of the batch that came last
+abbrev comes : View LaneKey → Told → Coming
+comes v t = coming_on v t.given (last_of t)
 
-left_by : (key : UnitsKey) (n : ℕ) (rest new : List Verdict) → EachFrom (IsTold key) n rest → (new ≡ rest) ⊎ (new ≡ []) → EachFrom (IsTold key) n new
-left_by key n rest new all (inl same) = subst (EachFrom (IsTold key) n) (sym same) all
-left_by key n rest new all (inr none) = subst (EachFrom (IsTold key) n) (sym none) tt
-
-few_by : (n k : ℕ) (rest new : List Verdict) → n + suc (length rest) < 2 ^ 63 → k ≡ n + 1 → (new ≡ rest) ⊎ (new ≡ []) → k + length new < 2 ^ 63
-few_by n k rest new few next (inl same) = let many = ap length same in omega (arith, few, next, many)
-few_by n k rest new few next (inr none) = let many = ap length none in omega (arith, few, next, many)
-
-comes_of : (lane : LaneKey) (taken : ℕ) (t u : Told) (x : Verdict) → Awaits (key_of lane.epoch) taken t → GivesOne x t u
-    → VerdictComes x (coming_on (Taker lane taken) t.given) (coming_on (Taker lane taken) u.given) × Awaits (key_of lane.epoch) taken u
-comes_of lane taken t u x at one =
+comes_of : (lane : LaneKey) (taken : ℕ) (t u : Told) → Awaits (key_of lane.epoch) taken t → GivesOne t u
+    → VerdictComes (comes (Taker lane taken) t) (comes (Taker lane taken) u) × Awaits (key_of lane.epoch) taken u
+comes_of lane taken t u at one =
     let key = key_of lane.epoch in
     let all = subst (λ (vs : List Verdict). EachFrom (IsTold key) t.given vs) one.left at.left in
     let given = one.given in
     let next : suc t.given ≡ u.given = omega (arith, given) in
     let many = ap length one.left in
-    let few = subst (λ (vs : List Verdict). t.given + length vs < 2 ^ 63) one.left at.few in (
-      record { verdict_is = says_by key t.given one.first x all.0 one.told; key_is = refl; given_is = one.given },
+    let sum : u.given + length (left_of u) ≡ t.given + length (left_of t) = omega (arith, given, many) in (
+      record { verdict_is = all.0; key_is = refl; given_is = one.given },
       record {
-        left = left_by key u.given one.rest (left_of u) (subst (λ (k : ℕ). EachFrom (IsTold key) k one.rest) next all.1) one.behind;
-        next = λ still. (
-            let on = one.onward still in let fewer = ap length on.0 in
-            let sum : u.given + length (left_of u) ≡ t.given + length (left_of t) = omega (arith, given, many, fewer) in sum ∙ at.next on.1
-            );
-        few = few_by t.given u.given one.rest (left_of u) few one.given one.behind;
+        left = subst (λ (k : ℕ). EachFrom (IsTold key) k (left_of u)) next all.1;
+        next = λ still. sum ∙ at.next (sym one.over ∙ still);
+        few = subst (λ (k : ℕ). k < 2 ^ 63) (sym sum) at.few;
       },
     )
 
 -- the next of those that came is given
-pub gives_kept : (v back : View LaneKey) (t u : Told) (x : Verdict) → AwaitsOn v back t → GivesOne x t u
-    → VerdictComes x (coming_on v t.given) (coming_on v u.given) × AwaitsOn v back u
-gives_kept (Taker lane taken) back t u x at one = let so = comes_of lane taken t u x at.0 one in (so.0, (so.1, at.1))
-gives_kept (Sender lane sent ended) back t u x at one = let clash : [] ≡ one.first ∷ one.rest = sym at.0 ∙ one.left in absurd (cc clash)
-gives_kept Fresh back t u x at one = let clash : [] ≡ one.first ∷ one.rest = sym at.0 ∙ one.left in absurd (cc clash)
-gives_kept Spent back t u x at one = let clash : [] ≡ one.first ∷ one.rest = sym at.0 ∙ one.left in absurd (cc clash)
+pub gives_kept : (v back : View LaneKey) (t u : Told) → AwaitsOn v back t → GivesOne t u → VerdictComes (comes v t) (comes v u) × AwaitsOn v back u
+gives_kept (Taker lane taken) back t u at one = let so = comes_of lane taken t u at.0 one in (so.0, (so.1, at.1))
+gives_kept (Sender lane sent ended) back t u at one = let clash : [] ≡ last_of u ∷ left_of u = sym at.0 ∙ one.left in absurd (cc clash)
+gives_kept Fresh back t u at one = let clash : [] ≡ last_of u ∷ left_of u = sym at.0 ∙ one.left in absurd (cc clash)
+gives_kept Spent back t u at one = let clash : [] ≡ last_of u ∷ left_of u = sym at.0 ∙ one.left in absurd (cc clash)
 
 -- .. or none is left of them
 pub none_kept : (v back : View LaneKey) (t u : Told) → AwaitsOn v back t → left_of t ≡ [] → left_of u ≡ [] → u.given ≡ t.given → u.over ≡ t.over
-    → AwaitsOn v back u × (coming_on v u.given ≡ coming_on v t.given)
-none_kept v back t u at none still given over = (kept v at, ap (coming_on v) given)
+    → AwaitsOn v back u
+none_kept v back t u at none still given over = kept v at
   where
     same : left_of u ≡ left_of t
     same = still ∙ sym none
@@ -97,7 +84,7 @@ back_to Spent w back x t took at = absurd took
 -- others came
 pub refilled : (v w back after : View LaneKey) (x : Judged) (t r : Told) → TakesItem is_judged v x w
     → AwaitsOn v back t → left_of t ≡ [] → t.over ≡ false → ((key : UnitsKey) → GoesBack back key → GoesBack after key)
-    → left_of r ≡ left_to_give x.told → r.over ≡ is_over x → r.given ≡ t.given → AwaitsOn w after r × (coming_on w r.given ≡ coming_on v t.given)
+    → left_of r ≡ left_to_give x.told → r.over ≡ is_over x → r.given ≡ t.given → AwaitsOn w after r × (key_on w ≡ key_on v)
 refilled (Taker lane taken) w back after x t r took at none still back_on left over given =
     let key = key_of lane.epoch in
     let zero_left = ap length none in
@@ -114,7 +101,7 @@ refilled (Taker lane taken) w back after x t r took at none still back_on left o
         },
         back_on key at.1,
       ),
-      ap (λ (u : View LaneKey). coming_on u r.given) took.1 ∙ ap (λ (k : ℕ). coming_on (Taker lane taken) k) given,
+      ap key_on took.1,
     )
   where
     behind_whole : (key : UnitsKey) (b many sum : ℕ) → many ≡ size key b → sum ≡ batch_begins key b + many → sum ≡ batch_begins key (b + 1)
@@ -125,8 +112,17 @@ refilled Fresh w back after x t r took at none still back_on left over given = a
 refilled Spent w back after x t r took at none still back_on left over given = absurd took
 
 -- .. and the first of them is given, or there are none
-pub first_given : (w back : View LaneKey) (r u : Told) (out : Option Verdict) → AwaitsOn w back r → GivesNext out r u
-    → MatchOption out (coming_on w u.given ≡ coming_on w r.given) (λ (verdict : Verdict). VerdictComes verdict (coming_on w r.given) (coming_on w u.given))
-    × AwaitsOn w back u
-first_given w back r u (Some verdict) at next = gives_kept w back r u verdict at next
-first_given w back r u None at next = let kept = none_kept w back r u at next.0 next.1 next.2 next.3 in (kept.1, kept.0)
+pub first_given : (w back : View LaneKey) (r u : Told) (out : Bool) → AwaitsOn w back r → GivesNext out r u
+    → ComesNext out (comes w r) (comes w u) × AwaitsOn w back u
+first_given w back r u true at next = gives_kept w back r u at next
+first_given w back r u false at next = ((refl, next.2), none_kept w back r u at next.0 next.1 next.2 next.3)
+
+-- what is given first of the others came behind what was given before them
+pub come_behind : (out : Bool) (before old new : Coming) → old.key ≡ before.key → old.given ≡ before.given → ComesNext out old new
+    → ComesNext out before new
+come_behind true before old new key given next = record {
+  verdict_is = subst (λ (q : EpochKey × ℕ). SaysDecided q.0 new.last (verdict_at q.0 q.1)) (λ i. (key i, given i)) next.verdict_is;
+  key_is = next.key_is ∙ key;
+  given_is = next.given_is ∙ ap (λ (n : ℕ). n + 1) given;
+}
+come_behind false before old new key given next = (next.0 ∙ key, next.1 ∙ given)

@@ -1,10 +1,9 @@
 -- The verdicts of a batch that came, as they are given.
-use Rattle.std.specs.Prelude.{◌≡◌, ◌<◌, ◌^◌, ◌⊎◌, ℕ, ◌+◌, false, List, [], ◌∷◌, length, Option, Some, None}
+use Rattle.std.specs.Prelude.{◌≡◌, ◌<◌, ◌^◌, ℕ, ◌+◌, Bool, true, false, List, [], ◌∷◌, length}
 use Rattle.dp_judge.specs.declared.verdict.Verdict.{Verdict}
-use Rattle.dp_judge.specs.declared.verdict.Verdict.TheVariants.{NoMemory}
 use Rattle.dp_lane.specs.declared.rule.View.{View}
 use Rattle.dp_lane.specs.declared.rule.View.TheVariants.{Taker}
-use Rattle.dp_judge.specs.Decided.{left_to_give}
+use Rattle.dp_judge.specs.Decided.{last_given, left_to_give}
 use Rattle.dp_relay.specs.UnitsKey.{UnitsKey}
 use Rattle.dp_pipeline.specs.Carried.{IsTold}
 use Rattle.dp_pipeline.specs.Keys.{key_of}
@@ -17,26 +16,26 @@ use Rattle.dp_pipeline.specs.declared.told.Told.{Told}
 abbrev pub left_of : Told → List Verdict
 left_of t = left_to_give t.batch
 
+-- the verdict that was given last
+abbrev pub last_of : Told → Verdict
+last_of t = last_given t.batch
+
 -- so many batches came, and these are the verdicts on the last of them that aren't given yet
 pub record Awaits (key : UnitsKey) (taken : ℕ) (t : Told) : Type 0 where
   pub left : EachFrom (IsTold key) t.given (left_of t)
   pub next : t.over ≡ false → t.given + length (left_of t) ≡ batch_begins key taken
   pub few : t.given + length (left_of t) < 2 ^ 63
 
--- the next is given, and what was behind it is left; or memory was wanting for it, and no others follow
-pub record GivesOne (v : Verdict) (old new : Told) : Type 0 where
-  pub first : Verdict
-  pub rest : List Verdict
-  pub left : left_of old ≡ first ∷ rest
+-- the next is given, and what was behind it is left
+pub record GivesOne (old new : Told) : Type 0 where
+  pub left : left_of old ≡ last_of new ∷ left_of new
   pub given : new.given ≡ old.given + 1
-  pub told : (v ≡ first) ⊎ (v ≡ NoMemory)
-  pub behind : (left_of new ≡ rest) ⊎ (left_of new ≡ [])
-  pub onward : new.over ≡ false → (left_of new ≡ rest) × (old.over ≡ false)
+  pub over : new.over ≡ old.over
 
 -- .. or none is left
-abbrev pub GivesNext : Option Verdict → Told → Told → Type 0
-GivesNext (Some v) old new = GivesOne v old new
-GivesNext None old new = (left_of old ≡ []) × (left_of new ≡ []) × (new.given ≡ old.given) × (new.over ≡ old.over)
+abbrev pub GivesNext : Bool → Told → Told → Type 0
+GivesNext true old new = GivesOne old new
+GivesNext false old new = (left_of old ≡ []) × (left_of new ≡ []) × (new.given ≡ old.given) × (new.over ≡ old.over)
 
 -- the batches that come out of one lane go back on another
 abbrev pub BackOf : View LaneKey → View LaneKey → Type 0

@@ -1,10 +1,9 @@
 //! Which batches and verdicts are the last of their epoch.
-ghost use Rattle.std.specs.Prelude.{◌≡◌, ◌-◌, false, not, ◌&&◌, nat_le};
-ghost use Rattle.dp_judge.specs.declared.verdict.Verdict.TheVariants.{NoMemory};
+ghost use Rattle.std.specs.Prelude.{◌≡◌, ◌-◌, not, ◌&&◌, nat_le};
 ghost use Rattle.dp_judge.specs.Decided.{left_to_give};
 ghost use Rattle.dp_pipeline.specs.Carried.{all_onward, is_going_on};
 
-use dp_judge::{ToldBatch, Verdict};
+use dp_judge::ToldBatch;
 use dp_lean_machine::{BatchStatus, LeanBatch};
 
 /// The epoch goes on behind a batch that stands so, as far as the stages know.
@@ -32,15 +31,4 @@ pub(crate) fn is_last_told(batch: &LeanBatch<'_>, told: &ToldBatch) -> bool
     ensures { result ≡ not (is_going_on batch.now.status && all_onward (left_to_give told.now)) }
 {
     !(goes_on(batch.status()) && told.goes_on())
-}
-
-/// Memory was wanting for the verdict.
-pub(crate) fn is_wanting(verdict: &Verdict) -> bool
-    ensures { result ≡ false → verdict.now ≡ NoMemory → ⊥ }
-{
-    match verdict {
-        Verdict::Clean(_) => false,
-        Verdict::Unclean => false,
-        Verdict::NoMemory => true,
-    }
 }

@@ -1,5 +1,6 @@
 //! The pipeline of an epoch.
 ghost use Rattle.std.specs.Prelude.{◌≡◌, ◌≤◌, length, IfOk};
+ghost use Rattle.dp_judge.specs.declared.verdict.Verdict.TheVariants as verdict;
 ghost use Rattle.dp_pipeline.specs.Begin.{key_at};
 ghost use Rattle.dp_pipeline.specs.UnitCount.{unit_count};
 
@@ -35,7 +36,7 @@ impl<'u> Pipeline<'u> {
         requires fuel { begin.fuel ≤ 1000000000 }
         ensures units { IfOk result (λ made. length made.units ≡ unit_count size.workers region.now.plan) }
         ensures setter { setter.new ≡ setter.old }
-        ensures verdicts { IfOk result (λ made. made.verdicts ≡ record { key = key_at region.now input.now begin.entry; given = 0 }) }
+        ensures verdicts { IfOk result (λ made. made.verdicts ≡ record { key = key_at region.now input.now begin.entry; given = 0; last = verdict.NoMemory }) }
     {
         let line = region.line(input);
         line.epochs_are_lawful();

@@ -1,10 +1,11 @@
 //! The verdicts of the batch that came last.
 ghost use Rattle.std.specs.Prelude.{◌≡◌, ◌+◌, ◌<◌, ◌^◌, [], false, length};
+ghost use Rattle.dp_judge.specs.declared.verdict.Verdict.TheVariants as verdict;
 ghost use Rattle.dp_judge.specs.Decided.{left_to_give};
 ghost use Rattle.dp_pipeline.specs.Carried.{is_over};
-ghost use Rattle.dp_pipeline.specs.Left.{left_of, GivesNext};
+ghost use Rattle.dp_pipeline.specs.Left.{GivesNext, last_of, left_of};
 
-use crate::ending::{is_last_told, is_wanting};
+use crate::ending::is_last_told;
 use crate::judged::Judged;
 use crate::spare::Spare;
 use dp_judge::{ToldBatch, Verdict};
@@ -23,7 +24,9 @@ pub(crate) struct Told {
 impl Told {
     /// None came yet.
     pub(crate) fn none(alloc: Global) -> Told
-        ensures { (left_of result ≡ []) × (result.over ≡ false) × (result.given ≡ 0) }
+        ensures left { left_of result ≡ [] }
+        ensures last { last_of result ≡ verdict.NoMemory }
+        ensures start { (result.over ≡ false) × (result.given ≡ 0) }
     {
         Told {
             batch: ToldBatch::new(alloc),
@@ -32,21 +35,24 @@ impl Told {
         }
     }
 
-    /// The next of them. None follows want of memory.
-    pub(crate) fn next(&mut self) -> Option<Verdict>
+    /// Whether there is a further one, which is the last one given then.
+    pub(crate) fn next(&mut self) -> bool
         requires { self.old.given + length (left_of self.old) < 2 ^ 63 }
         ensures { GivesNext result self.old self.new }
     {
-        match self.batch.next() {
-            Some(verdict) => {
-                self.given += 1;
-                if is_wanting(&verdict) {
-                    self.over = true;
-                }
-                Some(verdict)
-            }
-            None => None,
+        if self.batch.next() {
+            self.given += 1;
+            true
+        } else {
+            false
         }
+    }
+
+    /// The verdict that was given last.
+    pub(crate) fn verdict(&self) -> Verdict<'_>
+        ensures { result ≡ last_of self.now }
+    {
+        self.batch.verdict()
     }
 
     /// Others came; what they were in goes back.

@@ -19,7 +19,7 @@ pub struct LaneVerdicts<'u> {
     end: TakeEnd<Judged<'u>>,
     own: Row<Unit<'u>>,
     pause: Pause<'u>,
-    /// What came and isn't given yet.
+    /// What came, and how much of it was given.
     told: Told,
     /// Where the batches that were judged are sent back.
     back: Back<'u>,
@@ -43,22 +43,23 @@ impl<'u> Model for LaneVerdicts<'u> {
     ghost use Rattle.dp_tree.specs.contracts.Stmt as stmt;
     ghost use Rattle.std.specs.Coded.{codes};
     ghost use Rattle.dp_pipeline.specs.Coming.{Coming, coming_on};
-    ghost use Rattle.dp_pipeline.specs.Left.{AwaitsOn};
+    ghost use Rattle.dp_pipeline.specs.Left.{AwaitsOn, last_of};
 
     ghost Value = { Coming };
 
     ghost coded = { Prim.hlevel (codes, expr.the_row.coded, stmt.the_row.coded) };
 
-    ghost view = { λ v. coming_on v.end.view v.told.given };
+    ghost view = { λ v. coming_on v.end.view v.told.given (last_of v.told) };
 
     ghost invariant = { λ v. AwaitsOn v.end.view v.back.end.view v.told };
 }
 
 impl<'u> LaneVerdicts<'u> {
-    ghost use Rattle.std.specs.Prelude.{◌≡◌, ◌+◌, ◌<◌, ℕ, true, MatchOption};
+    ghost use Rattle.std.specs.Prelude.{◌≡◌, ◌+◌, ◌<◌, ℕ, true};
     ghost use Rattle.dp_semantics.specs.EpochVerdicts.{goes_on, verdict_at};
+    ghost use Rattle.dp_judge.specs.declared.verdict.Verdict.TheVariants as verdict;
     ghost use Rattle.dp_judge.specs.Told.{SaysDecided};
-    ghost use Rattle.dp_pipeline.specs.Coming.{VerdictComes, coming_on};
+    ghost use Rattle.dp_pipeline.specs.Coming.{ComesNext, coming_on};
     ghost use Rattle.dp_pipeline.specs.Left.{BackOf};
     ghost use Rattle.dp_pipeline.specs.Standing.{taker_count};
 
@@ -66,7 +67,7 @@ impl<'u> LaneVerdicts<'u> {
     pub(crate) fn new(alloc: Global, end: TakeEnd<Judged<'u>>, back: Back<'u>) -> LaneVerdicts<'u>
         requires none { taker_count end.view ≡ 0 }
         requires back { BackOf end.view back.end.view }
-        ensures { result ≡ coming_on end.entry.view 0 }
+        ensures { result ≡ coming_on end.entry.view 0 verdict.NoMemory }
     {
         LaneVerdicts {
             end,
@@ -123,31 +124,59 @@ impl<'u> LaneVerdicts<'u> {
         self.own.as_mut_slice().reverse();
     }
 
-    /// The verdict on the next iteration. There is none after one that isn't Clean or that closes the region.
-    pub fn next<R: Wait + Clock>(&mut self, rt: &R) -> Verdict
+    /// Gives the verdict on the next iteration. There is none after one that isn't Clean or that closes the region.
+    pub fn next<R: Wait + Clock>(&mut self, rt: &R)
         requires { (n : ℕ) → n < self.old.given → goes_on (verdict_at self.old.key n) ≡ true }
-        ensures verdict { SaysDecided self.old.key result (verdict_at self.old.key self.old.given) }
+        ensures verdict { SaysDecided self.old.key self.new.last (verdict_at self.old.key self.old.given) }
+        ensures key { self.new.key ≡ self.old.key }
+        ensures given { self.new.given ≡ self.old.given + 1 }
+    {
+        if !self.give() {
+            self.await_next(rt);
+        }
+    }
+
+    /// The same, where none is left of those that came. It is out of line, so that what is frequent stays short.
+    #[inline(never)]
+    fn await_next<R: Wait + Clock>(&mut self, rt: &R)
+        requires { (n : ℕ) → n < self.old.given → goes_on (verdict_at self.old.key n) ≡ true }
+        ensures verdict { SaysDecided self.old.key self.new.last (verdict_at self.old.key self.old.given) }
         ensures key { self.new.key ≡ self.old.key }
         ensures given { self.new.given ≡ self.old.given + 1 }
     {
         'turns: for _ in rt.forever() {
-            match self.take(rt) {
-                Some(verdict) => return verdict,
-                None => self.poll_own(rt),
+            if self.take(rt) {
+                return;
             }
+            self.poll_own(rt);
         }
         unreachable!()
     }
 
-    /// The next verdict, if it has come.
-    fn take<R: Wait>(&mut self, rt: &R) -> Option<Verdict>
-        ensures { MatchOption result (self.new ≡ self.old) (λ verdict. VerdictComes verdict self.old self.new) }
+    /// Gives the next of the verdicts that came, if one is left.
+    #[inline(always)]
+    fn give(&mut self) -> bool
+        ensures { ComesNext result self.old self.new }
     {
-        if let Some(verdict) = self.told.next() {
-            return Some(verdict);
+        self.told.next()
+    }
+
+    /// The verdict that was given last: want of memory before the first.
+    pub fn verdict(&self) -> Verdict<'_>
+        ensures { result ≡ self.now.last }
+    {
+        self.told.verdict()
+    }
+
+    /// Gives the next verdict, if it has come.
+    fn take<R: Wait>(&mut self, rt: &R) -> bool
+        ensures { ComesNext result self.old self.new }
+    {
+        if self.told.next() {
+            return true;
         }
         if self.told.over {
-            return None;
+            return false;
         }
         match self.end.take(rt) {
             Some(judged) => {
@@ -156,7 +185,7 @@ impl<'u> LaneVerdicts<'u> {
                 self.back.send(rt, spare);
                 self.told.next()
             }
-            None => None,
+            None => false,
         }
     }
 

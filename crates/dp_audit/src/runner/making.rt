@@ -1,5 +1,5 @@
 //! The next iteration of a region: judged, and then committed or executed again.
-ghost use Rattle.std.specs.Prelude.{◌≡◌, [], List, ℤ, ℕ, true, false, None, IfOk, OnOk};
+ghost use Rattle.std.specs.Prelude.{◌≡◌, [], List, ℤ, ℕ, true, false, None, Some, IfOk, OnOk};
 ghost use Rattle.dp_tree.specs.declared.Program.{Program as Tree};
 ghost use Rattle.dp_plan.specs.declared.Plan.{Plan as PlanValue};
 ghost use Rattle.dp_meaning.specs.MachineState.{MachineState};
@@ -33,12 +33,17 @@ where
             RegionStands p plan input first n self.old → Makes p plan input first self.old.ledger.committed self.new group) }
     {
         let mut verdicts = self.current()?;
-        match verdicts.next(rt) {
-            Verdict::Clean(clean) => self.commit(verdicts, clean),
-            Verdict::Unclean => {
-                drop(verdicts);
-                self.again()
+        verdicts.next(rt);
+        match verdicts.verdict() {
+            Verdict::Clean(clean) => {
+                if clean.closing() {
+                    return self.close(clean);
+                }
+                let group = self.go_on(clean)?;
+                self.verdicts = Some(verdicts);
+                Ok(group)
             }
+            Verdict::Unclean => self.again(),
             Verdict::NoMemory => Err(NoMemory),
         }
     }
@@ -56,25 +61,14 @@ where
         }
     }
 
-    /// Commits the iteration on which the last of these verdicts was.
-    fn commit(&mut self, verdicts: LaneVerdicts<'s>, clean: Clean) -> Result<Group, NoMemory>
-        requires judged { (p : Tree) × (plan : PlanValue) × (input : List ℤ) × (first : MachineState) × CommitsNext p plan input first self.old verdicts clean }
-        ensures made { IfOk result (λ group. (p : Tree) (plan : PlanValue) (input : List ℤ) (first : MachineState) →
-            CommitsNext p plan input first self.old verdicts.entry clean → Makes p plan input first self.old.ledger.committed self.new group) }
-    {
-        if clean.closing() {
-            drop(verdicts);
-            return self.close(clean);
-        }
-        self.go_on(verdicts, clean)
-    }
-
-    /// Commits an iteration behind which the epoch goes on.
-    fn go_on(&mut self, verdicts: LaneVerdicts<'s>, clean: Clean) -> Result<Group, NoMemory>
-        requires judged { (p : Tree) × (plan : PlanValue) × (input : List ℤ) × (first : MachineState) × CommitsNext p plan input first self.old verdicts clean }
+    /// Commits an iteration behind which the epoch goes on. Its verdicts are to be put back.
+    fn go_on(&mut self, clean: Clean<'_>) -> Result<Group, NoMemory>
+        requires judged { (p : Tree) × (plan : PlanValue) × (input : List ℤ) × (first : MachineState) × (v : Coming)
+            × CommitsNext p plan input first self.old v clean }
         requires going { clean.closing ≡ false }
-        ensures made { IfOk result (λ group. (p : Tree) (plan : PlanValue) (input : List ℤ) (first : MachineState) →
-            CommitsNext p plan input first self.old verdicts.entry clean → Makes p plan input first self.old.ledger.committed self.new group) }
+        ensures made { IfOk result (λ group. (p : Tree) (plan : PlanValue) (input : List ℤ) (first : MachineState) (v : Coming) →
+            CommitsNext p plan input first self.old v clean.entry →
+            Makes p plan input first self.old.ledger.committed (record self.new { verdicts = Some v }) group) }
     {
         let number = self.ledger.committed.count();
         let stored = cells_of(self.epochs.alloc, clean.stores())?;
@@ -82,17 +76,16 @@ where
             .commit(self.epochs.alloc, clean, &mut Tally::new(Unwatched))?;
         let cells = self.ledger.committed.cells();
         let sets = self.known.changes_among(self.epochs.alloc, cells, stored)?;
-        self.verdicts = Some(verdicts);
         Ok(self.group(number, false, sets, IterEnd::Next))
     }
 
     /// Commits the closing iteration.
-    fn close(&mut self, clean: Clean) -> Result<Group, NoMemory>
+    fn close(&mut self, clean: Clean<'_>) -> Result<Group, NoMemory>
         requires judged { (p : Tree) × (plan : PlanValue) × (input : List ℤ) × (first : MachineState) × (v : Coming)
             × CommitsNext p plan input first self.old v clean }
         requires closing { clean.closing ≡ true }
         ensures made { IfOk result (λ group. (p : Tree) (plan : PlanValue) (input : List ℤ) (first : MachineState) (v : Coming) →
-            CommitsNext p plan input first self.old v clean → Makes p plan input first self.old.ledger.committed self.new group) }
+            CommitsNext p plan input first self.old v clean.entry → Makes p plan input first self.old.ledger.committed self.new group) }
     {
         let number = self.ledger.committed.count();
         self.ledger

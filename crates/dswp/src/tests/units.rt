@@ -77,7 +77,8 @@ fn all_clean<R: Wait + Clock>(rt: &R, verdicts: &mut LaneVerdicts<'_>, count: u3
     requires { verdicts.old.given ≡ 0 }
 {
     for place in 0..count {
-        match verdicts.next(rt) {
+        verdicts.next(rt);
+        match verdicts.verdict() {
             Verdict::Clean(clean) => {
                 if clean.closing() {
                     return place + 1 == count && clean.stores().is_empty();

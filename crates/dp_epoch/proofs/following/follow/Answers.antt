@@ -2,7 +2,7 @@
 use Rattle.std.proofs.Common.{◌≤◌, refl, sym, ap, ◌∙◌, append-nil, arith}
 use Rattle.dp_commit.specs.CommittedState.{CommittedState}
 use Rattle.dp_epoch.specs.declared.account.Account.{Account}
-use Rattle.dp_epoch.proofs.EpochLemmas.{left_falls}
+use Rattle.dp_epoch.proofs.EpochLemmas.{left_falls, told_so}
 use Rattle.dp_epoch.proofs.OtherEpoch.{followed_ahead, followed_left, followed_on, followed_report, followed_waits, leaves_followed, may_follow}
 use Rattle.dp_epoch.proofs.following.follow.Goals as goal
 
@@ -16,19 +16,21 @@ pub commit-requires-clause-next : goal.commit-requires-clause-next
 commit-requires-clause-next g c =
     let e = c.requires.epoch in
     let few : c.in-Clean.clean.steps ≤ e.0.words = omega (arith, e.3, c.if-steps-words.false, c.steps-steps.ensures) in
-    may_follow e.0 _ _ e.1 _ _ e.2 c.in-Clean.clean c.in-Clean.ensures.verdict (sym c.closing-closing.ensures ∙ c.if-closing.false) few
+    let gives = told_so (g.V.Verdicts.key c.args.verdicts.now) _ _ _ c.in-Clean.ensures c.next.ensures.verdict in
+    may_follow e.0 _ _ e.1 _ _ e.2 c.in-Clean.clean gives (sym c.closing-closing.ensures ∙ c.if-closing.false) few
 
 pub commit-requires-clause-tally : goal.commit-requires-clause-tally
 commit-requires-clause-tally g c =
     let e = c.requires.epoch in
     let few : c.in-Clean.clean.steps ≤ e.0.words = omega (arith, e.3, c.if-steps-words.false, c.steps-steps.ensures) in
-    let some = followed_left e.0 _ _ e.1 _ _ e.2 c.in-Clean.clean c.in-Clean.ensures.verdict (sym c.closing-closing.ensures ∙ c.if-closing.false) few in
+    let gives = told_so (g.V.Verdicts.key c.args.verdicts.now) _ _ _ c.in-Clean.ensures c.next.ensures.verdict in
+    let some = followed_left e.0 _ _ e.1 _ _ e.2 c.in-Clean.clean gives (sym c.closing-closing.ensures ∙ c.if-closing.false) few in
     let room = c.requires.room in
     omega (arith, some, room)
 
 pub returns-in_ok-commit-in-Clean-clause-followed : goal.returns-in_ok-commit-in-Clean-clause-followed
 returns-in_ok-commit-in-Clean-clause-followed g c =
-    let gives = c.in-Clean.ensures.verdict in
+    let gives = told_so (g.V.Verdicts.key c.args.verdicts.now) _ _ _ c.in-Clean.ensures c.next.ensures.verdict in
     let clean = c.in-Clean.clean in
     let going = sym c.closing-closing.ensures ∙ c.if-closing.false in
     let low = c.if-steps-words.false in

@@ -2,7 +2,8 @@
 use Rattle.std.proofs.Common.{refl, sym, ap, ◌∙◌, append-nil, arith}
 use Rattle.dp_commit.specs.CommittedState.{CommittedState}
 use Rattle.dp_epoch.specs.declared.account.Account.{Account}
-use Rattle.dp_epoch.proofs.EpochLemmas.{closes_ahead, epoch_closes, epoch_goes, goes_ahead, left_falls, left_here, may_commit, report_here, unclean_here, waits}
+use Rattle.dp_epoch.proofs.EpochLemmas.{closes_ahead, epoch_closes, epoch_goes, goes_ahead, left_falls, left_here, may_commit, report_here, told_so}
+use Rattle.dp_epoch.proofs.EpochLemmas.{unclean_here, waits}
 use Rattle.dp_epoch.proofs.taken.take.Goals as goal
 
 pub next-requires : goal.next-requires
@@ -12,17 +13,20 @@ pub commit-requires-clause-stands : goal.commit-requires-clause-stands
 commit-requires-clause-stands g c = let e = c.requires.epoch in (_, e.0, e.1.progress)
 
 pub commit-requires-clause-next : goal.commit-requires-clause-next
-commit-requires-clause-next g c = may_commit _ _ _ _ _ c.requires.epoch.1 c.in-Clean.clean c.in-Clean.ensures.verdict
+commit-requires-clause-next g c =
+    let gives = told_so (g.V.Verdicts.key c.args.verdicts.now) _ _ _ c.in-Clean.ensures c.next.ensures.verdict in
+    may_commit _ _ _ _ _ c.requires.epoch.1 c.in-Clean.clean gives
 
 pub commit-requires-clause-tally : goal.commit-requires-clause-tally
 commit-requires-clause-tally g c =
-    let some = left_here _ _ _ _ _ c.requires.epoch.1 c.in-Clean.clean c.in-Clean.ensures.verdict in
+    let gives = told_so (g.V.Verdicts.key c.args.verdicts.now) _ _ _ c.in-Clean.ensures c.next.ensures.verdict in
+    let some = left_here _ _ _ _ _ c.requires.epoch.1 c.in-Clean.clean gives in
     let room = c.requires.room in
     omega (arith, some, room)
 
 pub returns-then-closing-clause-taken : goal.returns-then-closing-clause-taken
 returns-then-closing-clause-taken g c =
-    let gives = c.in-Clean.ensures.verdict in
+    let gives = told_so (g.V.Verdicts.key c.args.verdicts.now) _ _ _ c.in-Clean.ensures c.next.ensures.verdict in
     let clean = c.in-Clean.clean in
     let closing = sym c.closing-closing.ensures ∙ c.if-closing.true in
     let done = c.in_ok-commit-in-Clean.ensures in
@@ -46,7 +50,7 @@ returns-then-closing-clause-taken g c =
 
 pub returns-else-closing-clause-taken : goal.returns-else-closing-clause-taken
 returns-else-closing-clause-taken g c =
-    let gives = c.in-Clean.ensures.verdict in
+    let gives = told_so (g.V.Verdicts.key c.args.verdicts.now) _ _ _ c.in-Clean.ensures c.next.ensures.verdict in
     let clean = c.in-Clean.clean in
     let going = sym c.closing-closing.ensures ∙ c.if-closing.false in
     let done = c.in_ok-commit-in-Clean.ensures in
@@ -70,7 +74,9 @@ returns-else-closing-clause-taken g c =
 
 pub returns-in-Unclean-clause-taken : goal.returns-in-Unclean-clause-taken
 returns-in-Unclean-clause-taken g c = record {
-  stands = λ first e. unclean_here _ _ first _ _ e c.in-Unclean.ensures.verdict.0 c.in-Unclean.ensures.verdict.1;
+  stands = λ first e.
+      let gives = told_so (g.V.Verdicts.key c.args.verdicts.now) _ _ _ c.in-Unclean.ensures c.next.ensures.verdict in
+      unclean_here _ _ first _ _ e gives.0 gives.1;
   prints = λ first e. sym (append-nil c.args.ledger.now.waiting);
   ahead = λ first e. refl;
   kept = λ e. (refl, refl);

@@ -1,0 +1,68 @@
+//! How quick something is, by the source's steps: iterations may differ in what they do.
+
+/// So many steps were made in so many nanoseconds.
+#[derive(Clone, Copy)]
+pub(crate) struct Pace {
+    steps: u64,
+    nanoseconds: u64,
+}
+
+impl Pace {
+    /// Nothing was timed.
+    pub(crate) fn unknown() -> Pace {
+        Pace {
+            steps: 0,
+            nanoseconds: 0,
+        }
+    }
+
+    /// Both together.
+    pub(crate) fn and(self, more: Pace) -> Pace {
+        Pace {
+            steps: self.steps.saturating_add(more.steps),
+            nanoseconds: self.nanoseconds.saturating_add(more.nanoseconds),
+        }
+    }
+
+    /// Whether a step took less time, by so many parts of a hundred of the other's. An unknown pace is no slower than any.
+    pub(crate) fn takes_less(self, percent: u64, other: Pace) -> bool {
+        let own = self.nanoseconds.saturating_mul(other.steps);
+        own.saturating_mul(100)
+            < other
+                .nanoseconds
+                .saturating_mul(self.steps)
+                .saturating_mul(percent)
+    }
+
+    /// How long it took.
+    pub(crate) fn nanoseconds(self) -> u64 {
+        self.nanoseconds
+    }
+}
+
+/// Times what is run from some moment on.
+#[derive(Clone, Copy)]
+pub(crate) struct Stopwatch {
+    since: u64,
+    steps: u64,
+}
+
+impl Stopwatch {
+    /// From now on, where so many steps were made.
+    pub(crate) fn start(now: u64, steps: u64) -> Stopwatch {
+        Stopwatch { since: now, steps }
+    }
+
+    /// What was run until now, where so many steps were made.
+    pub(crate) fn pace(self, now: u64, steps: u64) -> Pace {
+        Pace {
+            steps: steps.saturating_sub(self.steps),
+            nanoseconds: now.saturating_sub(self.since),
+        }
+    }
+
+    /// For how long it has been running.
+    pub(crate) fn passed(self, now: u64) -> u64 {
+        now.saturating_sub(self.since)
+    }
+}

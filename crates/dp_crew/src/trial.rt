@@ -1,0 +1,97 @@
+//! A trial of a region's plan, timed beside how quick following was.
+
+use crate::pace::{Pace, Stopwatch};
+
+/// It goes by windows of so many nanoseconds, with some verdicts at least, or of many verdicts.
+const WINDOW: u64 = 1_000_000;
+
+const SOME: u32 = 64;
+
+const MANY: u32 = 1_024;
+
+/// A window shows that the plan is quicker where a step took so many parts of a hundred of a followed one's time. While threads
+/// are started and the pipeline is filled windows are slow, so a trial without a quick one ends behind so many nanoseconds and
+/// windows only, or behind so many verdicts, or behind many of which a step took more than twice the time.
+const QUICKER: u64 = 90;
+
+const LONGEST: u64 = 12_000_000;
+
+const WINDOWS: u32 = 3;
+
+const MOST: u32 = 3_072;
+
+const HALF: u64 = 50;
+
+/// What a trial has shown by now.
+#[derive(Clone, Copy)]
+pub(crate) enum Shown {
+    Nothing,
+    /// The plan is quicker.
+    Quicker,
+    /// It wasn't.
+    Slower,
+}
+
+/// How many windows are over, how many verdicts of a trial came, and how many in the window under way.
+#[derive(Clone, Copy)]
+pub(crate) struct Trial {
+    windows: u32,
+    tried: u32,
+    within: u32,
+    watch: Stopwatch,
+    window: Stopwatch,
+}
+
+impl Trial {
+    /// It begins now, where so many steps were made.
+    pub(crate) fn begin(now: u64, steps: u64) -> Trial {
+        let watch = Stopwatch::start(now, steps);
+        Trial {
+            windows: 0,
+            tried: 0,
+            within: 0,
+            watch,
+            window: watch,
+        }
+    }
+
+    /// For how long it has been going on.
+    pub(crate) fn passed(&self, now: u64) -> u64 {
+        self.watch.passed(now)
+    }
+
+    /// One more verdict came now, with which so many steps were made. What is shown beside this pace of following.
+    pub(crate) fn take(&mut self, now: u64, steps: u64, alone: Pace) -> Shown {
+        self.tried = self.tried.saturating_add(1);
+        self.within = self.within.saturating_add(1);
+        let long = self.window.passed(now) >= WINDOW && self.within >= SOME;
+        if long || self.within >= MANY {
+            self.end_window(now, steps, alone)
+        } else {
+            Shown::Nothing
+        }
+    }
+
+    /// A window is over, and another one begins.
+    fn end_window(&mut self, now: u64, steps: u64, alone: Pace) -> Shown {
+        let pace = self.window.pace(now, steps);
+        self.within = 0;
+        self.windows = self.windows.saturating_add(1);
+        self.window = Stopwatch::start(now, steps);
+        if pace.takes_less(QUICKER, alone) {
+            Shown::Quicker
+        } else if self.is_over(now) || self.is_slow(pace, alone) {
+            Shown::Slower
+        } else {
+            Shown::Nothing
+        }
+    }
+
+    fn is_over(&self, now: u64) -> bool {
+        self.tried >= MOST || (self.windows >= WINDOWS && self.passed(now) >= LONGEST)
+    }
+
+    fn is_slow(&self, pace: Pace, alone: Pace) -> bool {
+        self.tried >= MANY && alone.takes_less(HALF, pace)
+    }
+}
