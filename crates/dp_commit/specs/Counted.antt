@@ -3,9 +3,9 @@ use Rattle.std.specs.Prelude.{ℕ, min, ◌-◌, ◌^◌}
 use Rattle.dp_commit.specs.declared.chosen.Ran.{Ran}
 use Rattle.dp_commit.specs.declared.chosen.Chosen.{Chosen}
 
--- a sum as it is counted: it stays at the greatest number of 64 bits
-abbrev pub counted : ℕ → ℕ
-counted n = min n (2 ^ 64 - 1)
+-- a sum as it is held_count: it stays at the greatest number of 64 bits
+abbrev pub held_count : ℕ → ℕ
+held_count n = min n (2 ^ 64 - 1)
 
 -- nothing was run
 abbrev pub none_ran : Ran

@@ -1,6 +1,6 @@
 //! By which plans a region's iterations were run.
 ghost use Rattle.std.specs.Prelude.{◌≡◌, ◌+◌};
-ghost use Rattle.dp_commit.specs.Counted.{counted, none_chosen, none_ran};
+ghost use Rattle.dp_commit.specs.Counted.{held_count, none_chosen, none_ran};
 
 /// What was run by one plan.
 #[derive(Clone, Copy)]
@@ -27,9 +27,9 @@ impl Ran {
 
     /// Both together.
     pub fn and(self, more: Ran) -> Ran
-        ensures iterations { result.iterations ≡ counted (self.iterations + more.iterations) }
-        ensures epochs { result.epochs ≡ counted (self.epochs + more.epochs) }
-        ensures nanoseconds { result.nanoseconds ≡ counted (self.nanoseconds + more.nanoseconds) }
+        ensures iterations { result.iterations ≡ held_count (self.iterations + more.iterations) }
+        ensures epochs { result.epochs ≡ held_count (self.epochs + more.epochs) }
+        ensures nanoseconds { result.nanoseconds ≡ held_count (self.nanoseconds + more.nanoseconds) }
     {
         Ran {
             iterations: self.iterations.saturating_add(more.iterations),

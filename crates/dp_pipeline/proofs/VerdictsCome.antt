@@ -7,22 +7,21 @@ use Rattle.dp_lane.specs.declared.rule.View.TheVariants.{Fresh, Sender, Taker, S
 use Rattle.dp_lane.specs.Views.{TakesItem}
 use Rattle.dp_judge.specs.declared.verdict.Verdict.{Verdict}
 use Rattle.dp_judge.specs.Told.{SaysDecided}
-use Rattle.dp_lean_region.specs.Line.{IsLineOf}
 use Rattle.dp_judge.specs.Decided.{left_to_give}
 use Rattle.dp_relay.specs.UnitsKey.{UnitsKey}
 use Rattle.dp_pipeline.specs.declared.judged.Judged.{Judged}
 use Rattle.dp_pipeline.specs.declared.keys.LaneKey.{LaneKey}
 use Rattle.dp_pipeline.specs.declared.told.Told.{Told}
-use Rattle.dp_pipeline.specs.Carried.{lean_of, IsTold, IsJudged, is_over}
+use Rattle.dp_pipeline.specs.Carried.{IsTold, IsJudged, is_over}
 use Rattle.dp_pipeline.specs.Coming.{Coming, VerdictComes, ComesNext, key_on, coming_on}
 use Rattle.dp_pipeline.specs.Keys.{key_of}
 use Rattle.dp_pipeline.specs.Lanes.{GoesBack}
-use Rattle.dp_pipeline.specs.Left.{left_of, last_of, GivesOne, GivesNext, Awaits, AwaitsOn}
+use Rattle.dp_pipeline.specs.Left.{left_of, last_told, GivesOne, GivesNextTold, Awaits, AwaitsOn}
 use Rattle.dp_pipeline.specs.Sizes.{batch_begins, size, EachFrom}
 
 -- what comes on the end of a lane, with the verdicts of the batch that came last
 abbrev comes : View LaneKey → Told → Coming
-comes v t = coming_on v t.given (last_of t)
+comes v t = coming_on v t.given (last_told t)
 
 comes_of : (lane : LaneKey) (taken : ℕ) (t u : Told) → Awaits (key_of lane.epoch) taken t → GivesOne t u
     → VerdictComes (comes (Taker lane taken) t) (comes (Taker lane taken) u) × Awaits (key_of lane.epoch) taken u
@@ -44,9 +43,9 @@ comes_of lane taken t u at one =
 -- the next of those that came is given
 pub gives_kept : (v back : View LaneKey) (t u : Told) → AwaitsOn v back t → GivesOne t u → VerdictComes (comes v t) (comes v u) × AwaitsOn v back u
 gives_kept (Taker lane taken) back t u at one = let so = comes_of lane taken t u at.0 one in (so.0, (so.1, at.1))
-gives_kept (Sender lane sent ended) back t u at one = let clash : [] ≡ last_of u ∷ left_of u = sym at.0 ∙ one.left in absurd (cc clash)
-gives_kept Fresh back t u at one = let clash : [] ≡ last_of u ∷ left_of u = sym at.0 ∙ one.left in absurd (cc clash)
-gives_kept Spent back t u at one = let clash : [] ≡ last_of u ∷ left_of u = sym at.0 ∙ one.left in absurd (cc clash)
+gives_kept (Sender lane sent ended) back t u at one = let clash : [] ≡ last_told u ∷ left_of u = sym at.0 ∙ one.left in absurd (cc clash)
+gives_kept Fresh back t u at one = let clash : [] ≡ last_told u ∷ left_of u = sym at.0 ∙ one.left in absurd (cc clash)
+gives_kept Spent back t u at one = let clash : [] ≡ last_told u ∷ left_of u = sym at.0 ∙ one.left in absurd (cc clash)
 
 -- .. or none is left of them
 pub none_kept : (v back : View LaneKey) (t u : Told) → AwaitsOn v back t → left_of t ≡ [] → left_of u ≡ [] → u.given ≡ t.given → u.over ≡ t.over
@@ -72,14 +71,6 @@ none_kept v back t u at none still given over = kept v at
 -- what a batch of verdicts is in its lane
 abbrev pub is_judged : LaneKey → ℕ → Judged → Type 0
 is_judged key k x = IsJudged (key_of key.epoch) k x
-
--- the batch of those that came goes back
-pub back_to : (v w back : View LaneKey) (x : Judged) (t : Told) → TakesItem is_judged v x w → AwaitsOn v back t → (key : UnitsKey) × GoesBack back key
-    × IsLineOf (lean_of key) x.batch.line
-back_to (Taker lane taken) w back x t took at = (key_of lane.epoch, at.1, took.0.line)
-back_to (Sender lane sent ended) w back x t took at = absurd took
-back_to Fresh w back x t took at = absurd took
-back_to Spent w back x t took at = absurd took
 
 -- others came
 pub refilled : (v w back after : View LaneKey) (x : Judged) (t r : Told) → TakesItem is_judged v x w
@@ -112,7 +103,7 @@ refilled Fresh w back after x t r took at none still back_on left over given = a
 refilled Spent w back after x t r took at none still back_on left over given = absurd took
 
 -- .. and the first of them is given, or there are none
-pub first_given : (w back : View LaneKey) (r u : Told) (out : Bool) → AwaitsOn w back r → GivesNext out r u
+pub first_given : (w back : View LaneKey) (r u : Told) (out : Bool) → AwaitsOn w back r → GivesNextTold out r u
     → ComesNext out (comes w r) (comes w u) × AwaitsOn w back u
 first_given w back r u true at next = gives_kept w back r u at next
 first_given w back r u false at next = ((refl, next.2), none_kept w back r u at next.0 next.1 next.2 next.3)

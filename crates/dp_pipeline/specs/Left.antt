@@ -17,8 +17,8 @@ abbrev pub left_of : Told → List Verdict
 left_of t = left_to_give t.batch
 
 -- the verdict that was given last
-abbrev pub last_of : Told → Verdict
-last_of t = last_given t.batch
+abbrev pub last_told : Told → Verdict
+last_told t = last_given t.batch
 
 -- so many batches came, and these are the verdicts on the last of them that aren't given yet
 pub record Awaits (key : UnitsKey) (taken : ℕ) (t : Told) : Type 0 where
@@ -28,14 +28,14 @@ pub record Awaits (key : UnitsKey) (taken : ℕ) (t : Told) : Type 0 where
 
 -- the next is given, and what was behind it is left
 pub record GivesOne (old new : Told) : Type 0 where
-  pub left : left_of old ≡ last_of new ∷ left_of new
+  pub left : left_of old ≡ last_told new ∷ left_of new
   pub given : new.given ≡ old.given + 1
   pub over : new.over ≡ old.over
 
 -- .. or none is left
-abbrev pub GivesNext : Bool → Told → Told → Type 0
-GivesNext true old new = GivesOne old new
-GivesNext false old new = (left_of old ≡ []) × (left_of new ≡ []) × (new.given ≡ old.given) × (new.over ≡ old.over)
+abbrev pub GivesNextTold : Bool → Told → Told → Type 0
+GivesNextTold true old new = GivesOne old new
+GivesNextTold false old new = (left_of old ≡ []) × (left_of new ≡ []) × (new.given ≡ old.given) × (new.over ≡ old.over)
 
 -- the batches that come out of one lane go back on another
 abbrev pub BackOf : View LaneKey → View LaneKey → Type 0

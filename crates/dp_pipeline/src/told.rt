@@ -3,7 +3,7 @@ ghost use Rattle.std.specs.Prelude.{◌≡◌, ◌+◌, ◌<◌, ◌^◌, [], fa
 ghost use Rattle.dp_judge.specs.declared.verdict.Verdict.TheVariants as verdict;
 ghost use Rattle.dp_judge.specs.Decided.{left_to_give};
 ghost use Rattle.dp_pipeline.specs.Carried.{is_over};
-ghost use Rattle.dp_pipeline.specs.Left.{GivesNext, last_of, left_of};
+ghost use Rattle.dp_pipeline.specs.Left.{GivesNextTold, last_told, left_of};
 
 use crate::ending::is_last_told;
 use crate::judged::Judged;
@@ -25,7 +25,7 @@ impl Told {
     /// None came yet.
     pub(crate) fn none(alloc: Global) -> Told
         ensures left { left_of result ≡ [] }
-        ensures last { last_of result ≡ verdict.NoMemory }
+        ensures last { last_told result ≡ verdict.NoMemory }
         ensures start { (result.over ≡ false) × (result.given ≡ 0) }
     {
         Told {
@@ -38,7 +38,7 @@ impl Told {
     /// Whether there is a further one, which is the last one given then.
     pub(crate) fn next(&mut self) -> bool
         requires { self.old.given + length (left_of self.old) < 2 ^ 63 }
-        ensures { GivesNext result self.old self.new }
+        ensures { GivesNextTold result self.old self.new }
     {
         if self.batch.next() {
             self.given += 1;
@@ -50,7 +50,7 @@ impl Told {
 
     /// The verdict that was given last.
     pub(crate) fn verdict(&self) -> Verdict<'_>
-        ensures { result ≡ last_of self.now }
+        ensures { result ≡ last_told self.now }
     {
         self.batch.verdict()
     }

@@ -43,13 +43,13 @@ impl<'u> Model for LaneVerdicts<'u> {
     ghost use Rattle.dp_tree.specs.contracts.Stmt as stmt;
     ghost use Rattle.std.specs.Coded.{codes};
     ghost use Rattle.dp_pipeline.specs.Coming.{Coming, coming_on};
-    ghost use Rattle.dp_pipeline.specs.Left.{AwaitsOn, last_of};
+    ghost use Rattle.dp_pipeline.specs.Left.{AwaitsOn, last_told};
 
     ghost Value = { Coming };
 
     ghost coded = { Prim.hlevel (codes, expr.the_row.coded, stmt.the_row.coded) };
 
-    ghost view = { λ v. coming_on v.end.view v.told.given (last_of v.told) };
+    ghost view = { λ v. coming_on v.end.view v.told.given (last_told v.told) };
 
     ghost invariant = { λ v. AwaitsOn v.end.view v.back.end.view v.told };
 }

@@ -2,7 +2,7 @@ use denote.Param.Send.{sendable}
 use Rattle.dp_pipeline.proofs.Crossing.{judged_send}
 use Rattle.std.proofs.Common.{ap, ◌∙◌}
 use Rattle.dp_pipeline.specs.Coming.{Coming, coming_on}
-use Rattle.dp_pipeline.specs.Left.{last_of}
+use Rattle.dp_pipeline.specs.Left.{last_told}
 use Rattle.dp_pipeline.proofs.VerdictsCome.{refilled, first_given, none_kept, come_behind}
 use Rattle.dp_pipeline.proofs.verdicts.LaneVerdicts.take.Goals as goal
 
@@ -28,7 +28,7 @@ returns-in-Some g c =
     let came = refilled v w c.self.inside.back.end.view c.send.new.self.end.view c.in-Some.judged t r c.in-Some.ensures.1 at
     none.1 c.if-self.false
     c.send.ensures c.refill-spare.ensures.left c.refill-spare.ensures.over c.refill-spare.ensures.given in
-    come_behind c.next-in-Some.result c.args.self.now (coming_on w r.given (last_of r)) (coming_on w u.given (last_of u))
+    come_behind c.next-in-Some.result c.args.self.now (coming_on w r.given (last_told r)) (coming_on w u.given (last_told u))
     (came.1 ∙ ap (λ (k : Coming). k.key) c.self.view_is)
     (c.refill-spare.ensures.given ∙ none.2 ∙ ap (λ (k : Coming). k.given) c.self.view_is)
     (first_given w c.send.new.self.end.view r u c.next-in-Some.result came.0 c.next-in-Some.ensures).0
