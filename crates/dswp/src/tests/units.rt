@@ -1,5 +1,6 @@
 //! The units of one epoch, polled by hand: what a poll answers, and that no order of polls changes a verdict.
-ghost use Rattle.std.specs.Prelude.{◌≡◌, ◌<◌, ◌^◌, ◌-◌, IfOk};
+ghost use Rattle.std.specs.Prelude.{◌≡◌, ◌<◌, ◌^◌, ◌-◌, ℕ, true, false, IfOk, IfSome};
+ghost use Rattle.dp_semantics.specs.EpochVerdicts.{goes_on, verdict_at};
 ghost use Rattle.dp_tree.specs.Inlined.{IsInlined};
 
 use super::shelf_of;
@@ -72,22 +73,43 @@ fn pipeline_of<'u>(
     }
 }
 
+/// What a clean verdict tells.
+#[derive(Clone, Copy)]
+struct Told {
+    closing: bool,
+    stores: bool,
+}
+
+/// What the verdict on the next iteration tells, if it is clean.
+fn next_told<R: Wait + Clock>(rt: &R, verdicts: &mut LaneVerdicts<'_>) -> Option<Told>
+    requires { (n : ℕ) → n < verdicts.old.given → goes_on (verdict_at verdicts.old.key n) ≡ true }
+    ensures { IfSome result (λ told. told.closing ≡ false → (n : ℕ) → n < verdicts.new.given → goes_on (verdict_at verdicts.new.key n) ≡ true) }
+{
+    verdicts.next(rt);
+    match verdicts.verdict() {
+        Verdict::Clean(clean) => Some(Told {
+            closing: clean.closing(),
+            stores: !clean.stores().is_empty(),
+        }),
+        Verdict::Unclean | Verdict::NoMemory => None,
+    }
+}
+
 /// Whether the verdicts on so many iterations are clean, and the last of them, which alone stores nothing, closes the region.
 fn all_clean<R: Wait + Clock>(rt: &R, verdicts: &mut LaneVerdicts<'_>, count: u32) -> bool
     requires { verdicts.old.given ≡ 0 }
 {
     for place in 0..count {
-        verdicts.next(rt);
-        match verdicts.verdict() {
-            Verdict::Clean(clean) => {
-                if clean.closing() {
-                    return place + 1 == count && clean.stores().is_empty();
+        match next_told(rt, verdicts) {
+            Some(told) => {
+                if told.closing {
+                    return place + 1 == count && !told.stores;
                 }
-                if clean.stores().is_empty() {
+                if !told.stores {
                     return false;
                 }
             }
-            Verdict::Unclean | Verdict::NoMemory => return false,
+            None => return false,
         }
     }
     false
