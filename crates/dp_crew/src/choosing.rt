@@ -27,7 +27,7 @@ const DOUBT: u64 = 16_000_000;
 const SLOWER: u64 = 110;
 
 /// Behind a trial that failed, iterations are followed for so many times as long before the next one, twice as long each time.
-const REST: u64 = 4;
+const REST: u64 = 8;
 
 /// Fewer iterations aren't worth a pipeline of the run plan.
 const FEW: u32 = 16;

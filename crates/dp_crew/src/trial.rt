@@ -5,22 +5,23 @@ use crate::pace::{Pace, Stopwatch};
 /// It goes by windows of so many nanoseconds, with some verdicts at least, or of many verdicts.
 const WINDOW: u64 = 1_000_000;
 
-const SOME: u32 = 64;
+const SOME: u32 = 32;
 
 const MANY: u32 = 1_024;
 
-/// A window shows that the plan is quicker where a step took so many parts of a hundred of a followed one's time. While threads
-/// are started and the pipeline is filled windows are slow, so a trial without a quick one ends behind so many nanoseconds and
-/// windows only, or behind so many verdicts, or behind many of which a step took more than twice the time.
+/// Two windows together show that the plan is quicker where a step took so many parts of a hundred of a followed one's time.
 const QUICKER: u64 = 90;
 
+/// While threads are started and the pipeline is filled windows are slow, so a trial without such two ends behind so many
+/// nanoseconds and windows only, or behind so many verdicts,
 const LONGEST: u64 = 12_000_000;
 
-const WINDOWS: u32 = 3;
+const WINDOWS: u32 = 4;
 
 const MOST: u32 = 3_072;
 
-const HALF: u64 = 50;
+/// or with a window behind the first in which a followed step's time was less than so many parts of a hundred of one's.
+const HOPELESS: u64 = 33;
 
 /// What a trial has shown by now.
 #[derive(Clone, Copy)]
@@ -40,6 +41,8 @@ pub(crate) struct Trial {
     within: u32,
     watch: Stopwatch,
     window: Stopwatch,
+    /// How quick the window before was.
+    last: Pace,
 }
 
 impl Trial {
@@ -52,6 +55,7 @@ impl Trial {
             within: 0,
             watch,
             window: watch,
+            last: Pace::unknown(),
         }
     }
 
@@ -75,12 +79,17 @@ impl Trial {
     /// A window is over, and another one begins.
     fn end_window(&mut self, now: u64, steps: u64, alone: Pace) -> Shown {
         let pace = self.window.pace(now, steps);
+        let both = self.last.and(pace);
+        let first = self.windows == 0;
         self.within = 0;
         self.windows = self.windows.saturating_add(1);
         self.window = Stopwatch::start(now, steps);
-        if pace.takes_less(QUICKER, alone) {
+        self.last = pace;
+        if first {
+            Shown::Nothing
+        } else if both.takes_less(QUICKER, alone) {
             Shown::Quicker
-        } else if self.is_over(now) || self.is_slow(pace, alone) {
+        } else if self.is_over(now) || alone.takes_less(HOPELESS, pace) {
             Shown::Slower
         } else {
             Shown::Nothing
@@ -89,9 +98,5 @@ impl Trial {
 
     fn is_over(&self, now: u64) -> bool {
         self.tried >= MOST || (self.windows >= WINDOWS && self.passed(now) >= LONGEST)
-    }
-
-    fn is_slow(&self, pace: Pace, alone: Pace) -> bool {
-        self.tried >= MANY && alone.takes_less(HALF, pace)
     }
 }
