@@ -22,9 +22,9 @@ const LONGEST_SPAN: u32 = 16_777_216;
 /// many parts of a hundred of a followed one's time.
 const REVIEW: u32 = 256;
 
-const DOUBT: u64 = 16_000_000;
+const DOUBT: u64 = 32_000_000;
 
-const SLOWER: u64 = 110;
+const SLOWER: u64 = 125;
 
 /// Behind a trial that failed, iterations are followed for so many times as long before the next one, twice as long each time.
 const REST: u64 = 8;

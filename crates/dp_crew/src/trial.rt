@@ -14,13 +14,16 @@ const QUICKER: u64 = 90;
 
 /// While threads are started and the pipeline is filled windows are slow, so a trial without such two ends behind so many
 /// nanoseconds and windows only, or behind so many verdicts,
-const LONGEST: u64 = 12_000_000;
+const LONGEST: u64 = 16_000_000;
 
 const WINDOWS: u32 = 4;
 
 const MOST: u32 = 3_072;
 
-/// or with a window behind the first in which a followed step's time was less than so many parts of a hundred of one's.
+/// or, behind so many nanoseconds or many verdicts, with a window in which a followed step's time was less than so many parts of
+/// a hundred of one's.
+const STARTED: u64 = 6_000_000;
+
 const HOPELESS: u64 = 33;
 
 /// What a trial has shown by now.
@@ -89,11 +92,15 @@ impl Trial {
             Shown::Nothing
         } else if both.takes_less(QUICKER, alone) {
             Shown::Quicker
-        } else if self.is_over(now) || alone.takes_less(HOPELESS, pace) {
+        } else if self.is_over(now) || (self.is_started(now) && alone.takes_less(HOPELESS, pace)) {
             Shown::Slower
         } else {
             Shown::Nothing
         }
+    }
+
+    fn is_started(&self, now: u64) -> bool {
+        self.tried >= MANY || self.passed(now) >= STARTED
     }
 
     fn is_over(&self, now: u64) -> bool {
