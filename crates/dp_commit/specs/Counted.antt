@@ -3,7 +3,7 @@ use Rattle.std.specs.Prelude.{ℕ, min, ◌-◌, ◌^◌}
 use Rattle.dp_commit.specs.declared.chosen.Ran.{Ran}
 use Rattle.dp_commit.specs.declared.chosen.Chosen.{Chosen}
 
--- a sum as it is held_count: it stays at the greatest number of 64 bits
+-- a sum as it is held: it stays at the greatest number of 64 bits
 abbrev pub held_count : ℕ → ℕ
 held_count n = min n (2 ^ 64 - 1)
 
