@@ -8,7 +8,8 @@ const FOLLOWED: u32 = 4_096;
 
 const LONG: u64 = 5_000_000;
 
-/// The clock is looked at behind each so many of them. The first so many nanoseconds of an epoch aren't timed.
+/// The clock is looked at behind each so many of them, and behind the first ones each time that they are twice as many. The first
+/// so many nanoseconds of an epoch aren't timed, unless it has taken long by then.
 const LOOK: u32 = 32;
 
 const SETTLING: u64 = 500_000;
@@ -135,14 +136,17 @@ impl Choice {
 
     /// Whether the clock is to be looked at.
     pub(crate) fn looks(&self) -> bool {
-        self.may_try && self.here % LOOK == 0
+        self.may_try && (self.here % LOOK == 0 || self.here.is_power_of_two())
     }
 
     /// What is followed is timed once it has settled. Where it has taken long by now, the plan is tried at once.
     pub(crate) fn look(&mut self, now: u64, steps: u64) {
-        if !self.settled && self.watch.passed(now) >= SETTLING {
+        let passed = self.watch.passed(now);
+        if !self.settled && passed >= SETTLING {
             self.settled = true;
-            self.watch = Stopwatch::start(now, steps);
+            if passed < LONG {
+                self.watch = Stopwatch::start(now, steps);
+            }
         }
         self.enough = self.is_enough(now, steps);
     }
