@@ -2,7 +2,7 @@
 # Times regions whose iterations are often executed again, so that epochs are short, beside the same programs unmarked, in one run
 # on this machine:
 #   the hash table of examples/ under its own plan, over 65,536 words;
-#   a loop of which each iteration but the first is executed again;
+#   a loop of which each second iteration is executed again: more can't be by a load, since the first of an epoch sees what is committed;
 #   a loop of which each hundredth is, beside a memory of 1,000 cells and of 65,536.
 # Each time is the least of nine runs, less the time of an empty program under the same runner; the last loop's are less the time of
 # the same program on an empty input, which writes as many values. An epoch's time is what a run takes longer than unmarked, by the
@@ -52,7 +52,7 @@ int main() {
 C
 plan 'seq 2 3 4' 'seq 5 6' 'seq 7' >each.plan
 head -n 20000 words.in >twenty.in
-beside 'each iteration executed again' each.c twenty.in each.plan
+beside 'each second iteration executed again' each.c twenty.in each.plan
 
 for cells in 1000 65536; do
   cat >hundredth.c <<C

@@ -164,13 +164,13 @@ impl Choice {
     /// The epoch is over now. Behind one of the run plan at least one verdict of the plan comes.
     pub(crate) fn end(&mut self, way: Option<Way>, now: u64, steps: u64) {
         if let Some(Way::OneStage) = way {
-            if self.is_enough(now, steps) {
-                self.alone = self.alone.and(self.watch.pace(now, steps));
+            let enough = self.is_enough(now, steps);
+            self.alone = self.alone.and(self.watch.pace(now, steps));
+            if enough {
                 self.trial = Some(Trial::begin(now, steps));
                 self.next_take = 1;
                 self.to_take = self.span;
             } else {
-                self.alone = self.alone.and(self.watch.pace(now, steps));
                 self.end_early();
             }
         }

@@ -24,7 +24,7 @@ impl Pace {
         }
     }
 
-    /// Whether a step took less time, by so many parts of a hundred of the other's. An unknown pace is no slower than any.
+    /// Whether a step took less than so many parts of a hundred of the other's time. That isn't so of an unknown pace, nor beside one.
     pub(crate) fn takes_less(self, percent: u64, other: Pace) -> bool {
         let own = self.nanoseconds.saturating_mul(other.steps);
         own.saturating_mul(100)

@@ -2,26 +2,26 @@
 
 use crate::pace::{Pace, Stopwatch};
 
-/// It goes by windows of so many nanoseconds, with some verdicts at least, or of many verdicts.
+/// A window lasts so many nanoseconds, and until some verdicts came, or many.
 const WINDOW: u64 = 1_000_000;
 
 const SOME: u32 = 32;
 
 const MANY: u32 = 1_024;
 
-/// Two windows together show that the plan is quicker where a step took so many parts of a hundred of a followed one's time.
+/// The plan is quicker where in two windows a step took so many parts of a hundred of a followed one's time.
 const QUICKER: u64 = 90;
 
-/// While threads are started and the pipeline is filled windows are slow, so a trial without such two ends behind so many
-/// nanoseconds and windows only, or behind so many verdicts,
-const LONGEST: u64 = 16_000_000;
+/// It isn't where no two windows show that within so many verdicts, or so many windows and nanoseconds. The first windows are slow
+/// in any case: threads are started, and the pipeline is filled.
+const MOST: u32 = 3_072;
 
 const WINDOWS: u32 = 4;
 
-const MOST: u32 = 3_072;
+const LONGEST: u64 = 16_000_000;
 
-/// or, behind so many nanoseconds or many verdicts, with a window in which a followed step's time was less than so many parts of
-/// a hundred of one's.
+/// Nor is it where, behind many verdicts or so many nanoseconds, a followed step took less than so many parts of a hundred of the
+/// time that one took in a window.
 const STARTED: u64 = 6_000_000;
 
 const HOPELESS: u64 = 33;
