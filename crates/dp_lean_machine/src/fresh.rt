@@ -49,42 +49,26 @@ impl<'p> LeanBatch<'p> {
         })
     }
 
-    /// The same in the room of a batch of the line that was judged.
-    pub fn renew(self, first: u64, size: usize) -> LeanBatch<'p>
-        ensures fresh { IsFresh self.entry.line first size result }
-        ensures line { result.line ≡ self.entry.line }
-        ensures first { result.first ≡ first }
+    /// It becomes the batch of so many iterations from this one on, in the room of one that was judged.
+    pub fn renew(&mut self, first: u64, size: usize)
+        ensures fresh { IsFresh self.old.line first size self.new }
+        ensures line { self.new.line ≡ self.old.line }
+        ensures first { self.new.first ≡ first }
     {
-        let LeanBatch {
-            line,
-            stages,
-            version,
-            room,
-            ..
-        } = self;
-        let room = match version {
-            Some(spent) => Some(spent.into_room()),
-            None => room,
-        };
-        LeanBatch {
-            line,
-            first,
-            iterations: size,
-            status: BatchStatus::Going,
-            stages,
-            version: None,
-            room,
+        if let Some(spent) = self.version.take() {
+            self.room = Some(spent.into_room());
         }
+        self.first = first;
+        self.iterations = size;
+        self.status = BatchStatus::Going;
     }
 
     /// Memory is wanting for the batch.
-    pub fn wanting(self) -> LeanBatch<'p>
-        ensures status { result.status ≡ wanting.NoMemory }
-        ensures line { result.line ≡ self.entry.line }
-        ensures first { result.first ≡ self.entry.first }
+    pub fn wanting(&mut self)
+        ensures status { self.new.status ≡ wanting.NoMemory }
+        ensures line { self.new.line ≡ self.old.line }
+        ensures first { self.new.first ≡ self.old.first }
     {
-        let mut batch = self;
-        batch.status = BatchStatus::NoMemory;
-        batch
+        self.status = BatchStatus::NoMemory;
     }
 }

@@ -63,13 +63,11 @@ fn taken_room<'p>(batch: &mut LeanBatch<'p>) -> Option<VersionRoom>
 }
 
 /// The room of a version that is spent is kept in the batch, for another one.
-fn with_room<'p>(batch: LeanBatch<'p>, spent: Version) -> LeanBatch<'p>
-    ensures same { SameTold batch.entry result }
-    ensures version { result.version ≡ batch.entry.version }
+fn keep_room<'p>(batch: &mut LeanBatch<'p>, spent: Version)
+    ensures same { SameTold batch.old batch.new }
+    ensures version { batch.new.version ≡ batch.old.version }
 {
-    let mut batch = batch;
     batch.room = Some(spent.into_room());
-    batch
 }
 
 impl LeanMachine {
@@ -104,12 +102,12 @@ impl LeanMachine {
     }
 
     /// Makes of a batch what the stage sends of it. One for which memory was wanting stays as it is.
-    pub fn run<'p>(&mut self, batch: LeanBatch<'p>) -> LeanBatch<'p>
-        ensures sent { (e : LeanEpoch) (b : ℕ) → MachineStands self.old e b → IsSent e (self.old.stage - 1) b batch.entry → Passes self.new e b result }
+    pub fn run<'p>(&mut self, batch: &mut LeanBatch<'p>)
+        ensures sent { (e : LeanEpoch) (b : ℕ) → MachineStands self.old e b → IsSent e (self.old.stage - 1) b batch.old → Passes self.new e b batch.new }
         ensures stage { self.new.stage ≡ self.old.stage }
     {
         match batch.status {
-            BatchStatus::NoMemory => batch,
+            BatchStatus::NoMemory => {}
             BatchStatus::Going => self.go(batch),
             BatchStatus::Closing => self.go(batch),
             BatchStatus::Void => self.go(batch),
@@ -117,9 +115,9 @@ impl LeanMachine {
     }
 
     /// The same where memory wasn't wanting.
-    fn go<'p>(&mut self, batch: LeanBatch<'p>) -> LeanBatch<'p>
-        ensures sent { (e : LeanEpoch) (b : ℕ) (ends : NetStatus) → AsStatus batch.entry.status ends → MachineStands self.old e b →
-            IsSent e (self.old.stage - 1) b batch.entry → Passes self.new e b result }
+    fn go<'p>(&mut self, batch: &mut LeanBatch<'p>)
+        ensures sent { (e : LeanEpoch) (b : ℕ) (ends : NetStatus) → AsStatus batch.old.status ends → MachineStands self.old e b →
+            IsSent e (self.old.stage - 1) b batch.old → Passes self.new e b batch.new }
         ensures stage { self.new.stage ≡ self.old.stage }
     {
         let desk = match self.desk.take() {
@@ -134,59 +132,50 @@ impl LeanMachine {
     }
 
     /// By a stage before a sequential one.
-    fn from_cells<'p>(&mut self, desk: Desk, cells: Cells, batch: LeanBatch<'p>) -> LeanBatch<'p>
-        ensures sent { (e : LeanEpoch) (b : ℕ) (ends : NetStatus) → AsStatus batch.entry.status ends → TakesNext self.old.stage (kept.Cells cells) e b →
-            IsSent e (self.old.stage - 1) b batch.entry → Passes self.new e b result }
+    fn from_cells<'p>(&mut self, desk: Desk, cells: Cells, batch: &mut LeanBatch<'p>)
+        ensures sent { (e : LeanEpoch) (b : ℕ) (ends : NetStatus) → AsStatus batch.old.status ends → TakesNext self.old.stage (kept.Cells cells) e b →
+            IsSent e (self.old.stage - 1) b batch.old → Passes self.new e b batch.new }
         ensures stage { self.new.stage ≡ self.old.stage }
     {
         let place = self.stage.saturating_sub(1);
-        let sent = run_batch(self.alloc, place, desk, cells, None, batch);
-        self.kept = Kept::Cells(sent.memory);
-        self.desk = Some(sent.desk);
-        sent.batch
+        let behind = run_batch(self.alloc, place, desk, cells, None, batch);
+        self.kept = Kept::Cells(behind.memory);
+        self.desk = Some(behind.desk);
     }
 
     /// By a stage before a replicated one: it sends along the memory with which it begins the batch.
-    fn from_versioned<'p>(
-        &mut self,
-        desk: Desk,
-        both: Versioned,
-        batch: LeanBatch<'p>,
-    ) -> LeanBatch<'p>
-        ensures sent { (e : LeanEpoch) (b : ℕ) (ends : NetStatus) → AsStatus batch.entry.status ends →
+    fn from_versioned<'p>(&mut self, desk: Desk, both: Versioned, batch: &mut LeanBatch<'p>)
+        ensures sent { (e : LeanEpoch) (b : ℕ) (ends : NetStatus) → AsStatus batch.old.status ends →
             TakesNext self.old.stage (kept.Versioned both) e b →
-            IsSent e (self.old.stage - 1) b batch.entry → Passes self.new e b result }
+            IsSent e (self.old.stage - 1) b batch.old → Passes self.new e b batch.new }
         ensures stage { self.new.stage ≡ self.old.stage }
     {
-        let mut batch = batch;
         let mut both = both;
-        match both.snapshot(taken_room(&mut batch)) {
+        match both.snapshot(taken_room(batch)) {
             Ok(version) => {
                 let place = self.stage.saturating_sub(1);
-                let sent = run_batch(self.alloc, place, desk, both, Some(version), batch);
-                self.kept = Kept::Versioned(sent.memory);
-                self.desk = Some(sent.desk);
-                sent.batch
+                let behind = run_batch(self.alloc, place, desk, both, Some(version), batch);
+                self.kept = Kept::Versioned(behind.memory);
+                self.desk = Some(behind.desk);
             }
             Err(_) => batch.wanting(),
         }
     }
 
     /// By a replicated stage, from the version that the batch brings.
-    fn from_version<'p>(&mut self, desk: Desk, batch: LeanBatch<'p>) -> LeanBatch<'p>
-        ensures sent { (e : LeanEpoch) (b : ℕ) (ends : NetStatus) → AsStatus batch.entry.status ends → TakesNext self.old.stage kept.Nothing e b →
-            IsSent e (self.old.stage - 1) b batch.entry → Passes self.new e b result }
+    fn from_version<'p>(&mut self, desk: Desk, batch: &mut LeanBatch<'p>)
+        ensures sent { (e : LeanEpoch) (b : ℕ) (ends : NetStatus) → AsStatus batch.old.status ends → TakesNext self.old.stage kept.Nothing e b →
+            IsSent e (self.old.stage - 1) b batch.old → Passes self.new e b batch.new }
         ensures stage { self.new.stage ≡ self.old.stage }
     {
-        let mut batch = batch;
-        let memory = match taken_version(&mut batch) {
+        let memory = match taken_version(batch) {
             Some(memory) => memory,
             None => return batch.wanting(),
         };
         let place = self.stage.saturating_sub(1);
-        let sent = run_batch(self.alloc, place, desk, memory, None, batch);
+        let behind = run_batch(self.alloc, place, desk, memory, None, batch);
         self.kept = Kept::Nothing;
-        self.desk = Some(sent.desk);
-        with_room(sent.batch, sent.memory)
+        self.desk = Some(behind.desk);
+        keep_room(batch, behind.memory);
     }
 }

@@ -126,14 +126,6 @@ fn run_over<'p, M: Memory + Drop>(
     left(turn, steps, rooms, ran)
 }
 
-/// A batch that was run, and what it was run on.
-#[derive(Drop)]
-pub(crate) struct Sent<'p, M: Drop> {
-    pub(crate) batch: LeanBatch<'p>,
-    pub(crate) desk: Desk,
-    pub(crate) memory: M,
-}
-
 /// The stage at this place, if it is one of so many.
 fn stage_among<'p>(line: Line<'p>, place: usize, stages: usize) -> Option<ReadyStage<'p>>
     ensures ready { IfSome result (IsStageReady (line_kinds line.entry) place) }
@@ -147,6 +139,13 @@ fn stage_among<'p>(line: Line<'p>, place: usize, stages: usize) -> Option<ReadyS
     }
 }
 
+/// What a stage runs a batch on.
+#[derive(Drop)]
+pub(crate) struct Workplace<M: Drop> {
+    pub(crate) desk: Desk,
+    pub(crate) memory: M,
+}
+
 /// A batch is run by the stage at this place, which begins it with this memory. The version is sent along.
 pub(crate) fn run_batch<'p, M: Memory + Drop>(
     alloc: Global,
@@ -154,46 +153,30 @@ pub(crate) fn run_batch<'p, M: Memory + Drop>(
     desk: Desk,
     memory: M,
     version: Option<Version>,
-    batch: LeanBatch<'p>,
-) -> Sent<'p, M>
-    ensures sent { (e : LeanEpoch) (b : ℕ) → RanFrom e place b M.cells memory version batch.entry result.batch result.memory }
+    batch: &mut LeanBatch<'p>,
+) -> Workplace<M>
+    ensures sent { (e : LeanEpoch) (b : ℕ) → RanFrom e place b M.cells memory version batch.old batch.new result.memory }
 {
     let stage = match stage_among(batch.line, place, batch.stages.len()) {
         Some(stage) => stage,
         None => {
-            return Sent {
-                batch: batch.wanting(),
-                desk,
-                memory,
-            };
+            batch.wanting();
+            return Workplace { desk, memory };
         }
     };
-    let LeanBatch {
-        line,
-        first,
-        iterations,
-        status,
-        mut stages,
-        version: _,
-        room,
-    } = batch;
-    let taken = desk.exchanged(&mut stages, place);
-    let earlier = &stages.as_slice()[..place];
-    let came = Ran { iterations, status };
+    let taken = desk.exchanged(&mut batch.stages, place);
+    let earlier = &batch.stages.as_slice()[..place];
+    let came = Ran {
+        iterations: batch.iterations,
+        status: batch.status,
+    };
     let done = run_over(alloc, stage, earlier, taken, memory, came);
     let Done { ran, desk, memory } = done;
-    let given = desk.exchanged(&mut stages, place);
-    let batch = LeanBatch {
-        line,
-        first,
-        iterations: ran.iterations,
-        status: ran.status,
-        stages,
-        version,
-        room,
-    };
-    Sent {
-        batch,
+    let given = desk.exchanged(&mut batch.stages, place);
+    batch.iterations = ran.iterations;
+    batch.status = ran.status;
+    batch.version = version;
+    Workplace {
         desk: given,
         memory,
     }
