@@ -6,3 +6,4 @@ pub mod Exchanged
 pub mod SentOn
 pub mod Over
 pub mod Passing
+mod Working

@@ -5,6 +5,7 @@
 
 mod batch;
 mod desk;
+mod flat;
 mod fresh;
 mod keeping;
 mod machine;

@@ -3,6 +3,7 @@ ghost use Rattle.std.specs.Prelude.{◌≡◌, ◌<◌, ◌≤◌, length, IfOk}
 ghost use Rattle.dp_lean_machine.specs.Sent.{SameTold};
 
 use crate::desk::Desk;
+use crate::flat::flat_of;
 use crate::keeping::kept_at_base;
 use crate::running::run_batch;
 use crate::{BatchStatus, LeanBatch};
@@ -32,6 +33,8 @@ pub struct LeanMachine {
     kept: Kept,
     /// None where memory was wanting.
     desk: Option<Desk>,
+    /// How many cells the last version had that came with a batch.
+    cells: u32,
 }
 
 // By hand, so that a crate above doesn't prove again how all that a machine holds is dropped.
@@ -42,6 +45,7 @@ impl Drop for LeanMachine {
             stage: _,
             kept: _,
             desk: _,
+            cells: _,
         } = self;
     }
 }
@@ -98,6 +102,7 @@ impl LeanMachine {
             stage,
             kept,
             desk: Some(desk),
+            cells: 0,
         })
     }
 
@@ -168,14 +173,24 @@ impl LeanMachine {
             IsSent e (self.old.stage - 1) b batch.old → Passes self.new e b batch.new }
         ensures stage { self.new.stage ≡ self.old.stage }
     {
-        let memory = match taken_version(batch) {
-            Some(memory) => memory,
+        let version = match taken_version(batch) {
+            Some(version) => version,
             None => return batch.wanting(),
         };
         let place = self.stage.saturating_sub(1);
-        let behind = run_batch(self.alloc, place, desk, memory, None, batch);
-        self.kept = Kept::Nothing;
-        self.desk = Some(behind.desk);
-        keep_room(batch, behind.memory);
+        match flat_of(self.alloc, &version, &mut self.cells) {
+            Some(cells) => {
+                let behind = run_batch(self.alloc, place, desk, cells, None, batch);
+                self.kept = Kept::Nothing;
+                self.desk = Some(behind.desk);
+                keep_room(batch, version);
+            }
+            None => {
+                let behind = run_batch(self.alloc, place, desk, version, None, batch);
+                self.kept = Kept::Nothing;
+                self.desk = Some(behind.desk);
+                keep_room(batch, behind.memory);
+            }
+        }
     }
 }
