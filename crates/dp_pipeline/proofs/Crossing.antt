@@ -143,19 +143,19 @@ pub batch_send : (a : NamedLft) → IsSend (LeanBatch.the_row a)
 batch_send a = recorded_send (LeanBatch.the_field a).row _ _ (LeanBatch.the_type a).to_one (batch_field_send a)
 
 pub carried_field_send : (a : NamedLft) → IsSend (Carried.the_field a).row
-carried_field_send a = let b = batch_send a in let f = batch_field_send a in search (told.the_field_send, told.the_send, sendable) depth 60 fits 20000
+carried_field_send a = let b = batch_send a in let f = batch_field_send a in search (told.the_send, boxed.the_send, sendable) depth 60 fits 20000
 
 pub carried_send : (a : NamedLft) → IsSend (Carried.the_row a)
 carried_send a = recorded_send (Carried.the_field a).row _ _ (Carried.the_type a).to_one (carried_field_send a)
 
 pub judged_field_send : (a : NamedLft) → IsSend (Judged.the_field a).row
-judged_field_send a = let b = batch_send a in let f = batch_field_send a in search (told.the_field_send, told.the_send, sendable) depth 60 fits 20000
+judged_field_send a = let b = batch_send a in let f = batch_field_send a in search (told.the_send, boxed.the_send, sendable) depth 60 fits 20000
 
 pub judged_send : (a : NamedLft) → IsSend (Judged.the_row a)
 judged_send a = recorded_send (Judged.the_field a).row _ _ (Judged.the_type a).to_one (judged_field_send a)
 
 pub spare_field_send : (a : NamedLft) → IsSend (Spare.the_field a).row
-spare_field_send a = let b = batch_send a in let f = batch_field_send a in search (told.the_field_send, told.the_send, sendable) depth 60 fits 20000
+spare_field_send a = let b = batch_send a in let f = batch_field_send a in search (told.the_send, boxed.the_send, sendable) depth 60 fits 20000
 
 pub spare_send : (a : NamedLft) → IsSend (Spare.the_row a)
 spare_send a = recorded_send (Spare.the_field a).row _ _ (Spare.the_type a).to_one (spare_field_send a)

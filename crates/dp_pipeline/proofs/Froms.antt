@@ -1,5 +1,5 @@
 -- What is so of each of a list at its place.
-use Rattle.std.proofs.Common.{arith, ◌≡◌, ℕ, zero, suc, ◌+◌, Bool, true, false, ◌&&◌, List, [], ◌∷◌, slice_get, Some, refl, sym, subst}
+use Rattle.std.proofs.Common.{arith, ◌≡◌, ℕ, zero, suc, ◌+◌, Bool, true, false, ◌&&◌, List, [], ◌∷◌, slice_get, Some, refl, subst}
 use Rattle.std.specs.List.{list_all}
 use Rattle.dp_pipeline.specs.Sizes.{EachFrom}
 

@@ -1,7 +1,6 @@
 -- What a stage makes of a batch that came.
-use Rattle.std.proofs.Common.{arith, ◌≡◌, ◌≤◌, ◌<◌, ℕ, suc, ◌+◌, ◌-◌, Bool, true, false, not, ◌&&◌, nat_le, length, Option, Some, None, IfOk, Result, sym, ap}
+use Rattle.std.proofs.Common.{arith, ◌≡◌, ◌≤◌, ℕ, suc, ◌+◌, ◌-◌, Bool, true, false, not, ◌&&◌, nat_le, Option, Some, None, sym, ap}
 use Rattle.std.proofs.Common.{◌∙◌, subst, refl}
-use Rattle.dp_plan.specs.declared.Plan.{Plan}
 use Rattle.dp_plan.specs.Access.{is_replicated}
 use Rattle.dp_relay.specs.UnitsKey.{UnitsKey}
 use Rattle.dp_relay.specs.Places.{At, place_behind}

@@ -2,7 +2,6 @@
 use Rattle.std.proofs.Common.{arith, ◌≡◌, ◌≤◌, ℕ, suc, ◌+◌, Bool, false, Option, Some, None, IfSome, Result, Ok, Err, OnOk, OnErr, sym, ap, ◌∙◌, subst, refl}
 use Rattle.dp_relay.specs.UnitsKey.{UnitsKey}
 use Rattle.dp_lane.specs.declared.rule.View.{View}
-use Rattle.dp_lane.specs.declared.rule.View.TheVariants.{Fresh, Sender, Taker, Spent}
 use Rattle.dp_lane.specs.Ends.{End, moved_end, refused_once}
 use Rattle.dp_lane.specs.Views as views
 use Rattle.dp_lean_epoch.specs.LeanBatch.{IsLeanBatch}
@@ -21,11 +20,10 @@ use Rattle.dp_pipeline.specs.declared.start.Start.{Start}
 use Rattle.dp_pipeline.specs.declared.supply.Supply.{Supply}
 use Rattle.dp_pipeline.specs.Carried.{lean_of, IsCarried}
 use Rattle.dp_pipeline.specs.Keys.{key_of}
-use Rattle.dp_pipeline.specs.Lanes.{TakesFrom, SendsTo, ComesBack, GoesBack}
+use Rattle.dp_pipeline.specs.Lanes.{ComesBack, GoesBack}
 use Rattle.dp_pipeline.specs.Sizes.{batch_begins, size}
 use Rattle.dp_pipeline.specs.Standing.{Starts}
 use Rattle.dp_pipeline.specs.steps.Supplying.{Supplies, IsSupplied}
-use Rattle.dp_pipeline.proofs.Growth.{size_is}
 
 -- what a spare is in its lane
 abbrev pub is_spare : LaneKey → ℕ → Spare → Type 0
@@ -55,9 +53,9 @@ sent_back (Ok u) old new x ok err key at =
 sent_back (Err y) old new x ok err key at = subst (λ (e : End LaneKey). GoesBack e.view key) (sym err) at
 
 -- the last one is of the line
-pub last_line : (key : UnitsKey) (line : Line) (o : Option LeanBatch) → IsLineOf (lean_of key) line → IfSome o (λ (batch : LeanBatch). batch.line ≡ line)
-    → IfSome o (λ (batch : LeanBatch). IsLineOf (lean_of key) batch.line)
-last_line key line (Some batch) is same = subst (IsLineOf (lean_of key)) (sym same) is
+pub last_line : (key : UnitsKey) (line : Line) (o : Option Spare) → IsLineOf (lean_of key) line → IfSome o (λ (spare : Spare). spare.batch.line ≡ line)
+    → IfSome o (λ (spare : Spare). IsLineOf (lean_of key) spare.batch.line)
+last_line key line (Some spare) is same = subst (IsLineOf (lean_of key)) (sym same) is
 last_line key line None is same = tt
 
 -- the batch that says that memory is wanting
@@ -76,7 +74,7 @@ came_supplies x y came takes line last key at = record {
   epoch = at.epoch;
   line = subst (IsLineOf (lean_of key)) (sym line) at.line;
   spares = (came_back x.spares.view y.spares.view came takes key at.spares).1;
-  last = subst (λ (o : Option LeanBatch). IfSome o (λ (batch : LeanBatch). IsLineOf (lean_of key) batch.line)) (sym last) at.last;
+  last = subst (λ (o : Option Spare). IfSome o (λ (spare : Spare). IsLineOf (lean_of key) spare.batch.line)) (sym last) at.last;
 }
 
 pub came_fresh : (x : Supply) (new : View LaneKey) (came : Spare) (made : LeanBatch) (first count : ℕ) → views.TakesItem is_spare x.spares.view came new
@@ -90,17 +88,23 @@ none_supplies x y spares line last key at = record {
   epoch = at.epoch;
   line = subst (IsLineOf (lean_of key)) (sym line) at.line;
   spares = subst (λ (v : View LaneKey). ComesBack v key) (sym spares) at.spares;
-  last = subst (λ (o : Option LeanBatch). IfSome o (λ (batch : LeanBatch). IsLineOf (lean_of key) batch.line)) (sym last) at.last;
+  last = subst (λ (o : Option Spare). IfSome o (λ (spare : Spare). IsLineOf (lean_of key) spare.batch.line)) (sym last) at.last;
 }
+
+pub none_supplied : (x y : Supply) (made : Option Spare) (first count : ℕ) → y.spares.view ≡ x.spares.view → y.line ≡ x.line → y.last ≡ x.last
+    → IfSome made (λ (spare : Spare). IsSupplied y first count spare.batch) → IfSome made (λ (spare : Spare). IsSupplied x first count spare.batch)
+none_supplied x y (Some spare) first count spares line last fresh = λ key b at. fresh key b (none_supplies x y spares line last key at)
+none_supplied x y None first count spares line last fresh = tt
 
 -- a new one is of the line, and so is the last
 pub new_supplied : (x : Supply) (made : LeanBatch) (first count : ℕ) → IsFresh x.line first count made → IsSupplied x first count made
 new_supplied x made first count fresh key b at first_is count_is = fresh (lean_of key) b at.epoch at.line first_is count_is
 
-pub last_supplied : (x : Supply) (last renewed made : LeanBatch) (first count : ℕ) → x.last ≡ Some last → IsFresh last.line first count renewed
+pub last_supplied : (x : Supply) (last : Spare) (renewed made : LeanBatch) (first count : ℕ) → x.last ≡ Some last →
+    IsFresh last.batch.line first count renewed
     → made.status ≡ NoMemory → made.line ≡ renewed.line → made.first ≡ renewed.first → IsSupplied x first count made
 last_supplied x last renewed made first count there fresh wanting line begin key b at first_is count_is =
-    let own = subst (λ (o : Option LeanBatch). IfSome o (λ (batch : LeanBatch). IsLineOf (lean_of key) batch.line)) there at.last in
+    let own = subst (λ (o : Option Spare). IfSome o (λ (spare : Spare). IsLineOf (lean_of key) spare.batch.line)) there at.last in
     wanting_sent (lean_of key) b renewed made (fresh (lean_of key) b at.epoch own first_is count_is) wanting line begin
 
 -- what the start gives is its next batch, and it stands at the one behind

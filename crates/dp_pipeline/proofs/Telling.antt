@@ -1,7 +1,5 @@
 -- What the try-commit unit makes of a batch that came.
-use Rattle.std.proofs.Common.{arith, ◌≡◌, ◌≤◌, ◌<◌, ◌^◌, ℕ, suc, ◌+◌, ◌-◌, true, false, length, Option, Some, None, sym, ap, ◌∙◌, subst}
-use Rattle.dp_semantics.specs.EpochVerdicts.{verdict_at}
-use Rattle.dp_judge.specs.declared.verdict.Verdict.{Verdict}
+use Rattle.std.proofs.Common.{arith, ◌≡◌, ℕ, suc, ◌+◌, ◌-◌, false, length, Option, Some, None, sym, ap, ◌∙◌, subst}
 use Rattle.dp_judge.specs.Told.{goes_on_behind}
 use Rattle.dp_relay.specs.UnitsKey.{UnitsKey}
 use Rattle.dp_relay.specs.Places.{At, place_behind}

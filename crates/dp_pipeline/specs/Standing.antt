@@ -5,7 +5,6 @@ use Rattle.dp_lane.specs.declared.rule.View.{View}
 use Rattle.dp_lane.specs.declared.rule.View.TheVariants.{Sender, Taker}
 use Rattle.dp_lane.specs.Ends.{End}
 use Rattle.dp_lane.specs.Views.{sent_by}
-use Rattle.dp_pipeline.specs.declared.keys.LaneKey.{LaneKey}
 use Rattle.dp_pipeline.specs.declared.start.Start.{Start as First}
 use Rattle.dp_pipeline.specs.declared.source.Source.{Source}
 use Rattle.dp_pipeline.specs.declared.source.Source.TheVariants as source

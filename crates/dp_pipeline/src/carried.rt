@@ -4,18 +4,19 @@ ghost use Rattle.dp_pipeline.specs.Carried.{IsCarried, is_last_carried};
 ghost use Rattle.dp_pipeline.specs.Keys.{key_of};
 
 use crate::keys::LaneKey;
+use dp_base::Boxed;
 use dp_judge::ToldBatch;
 use dp_lane::LaneItem;
 use dp_lean_machine::LeanBatch;
 use dp_relay::Item;
 use dp_ring::RingItem;
 
-/// A batch of an epoch.
+/// A batch of an epoch. What goes from unit to unit is moved often, so it is in boxes.
 #[derive(Drop)]
 pub struct Carried<'p> {
-    pub batch: LeanBatch<'p>,
+    pub batch: Boxed<LeanBatch<'p>>,
     /// Room for the verdicts: what it holds means nothing.
-    pub told: ToldBatch,
+    pub told: Boxed<ToldBatch>,
 }
 
 impl<'p> Item for Carried<'p> {

@@ -19,8 +19,8 @@ impl<'p> Stage<Carried<'p>, Judged<'p>> for Judge {
 
     fn run<G: Gate>(&mut self, _gate: &G, item: Carried<'p>) -> Made<Judged<'p>> {
         let Carried { batch, mut told } = item;
-        self.court.judge(&batch, &mut told);
-        let last = is_last_told(&batch, &told);
+        self.court.judge(batch.get(), told.get_mut());
+        let last = is_last_told(batch.get(), told.get());
         Made {
             item: Judged { told, batch },
             last,

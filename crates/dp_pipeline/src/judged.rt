@@ -3,6 +3,7 @@ ghost use Rattle.dp_pipeline.specs.Carried.{IsJudged, is_last_judged};
 ghost use Rattle.dp_pipeline.specs.Keys.{key_of};
 
 use crate::keys::LaneKey;
+use dp_base::Boxed;
 use dp_judge::ToldBatch;
 use dp_lane::LaneItem;
 use dp_lean_machine::LeanBatch;
@@ -11,9 +12,9 @@ use dp_relay::Item;
 /// The verdicts on a batch, up to the first behind which the epoch doesn't go on.
 #[derive(Drop)]
 pub struct Judged<'p> {
-    pub told: ToldBatch,
+    pub told: Boxed<ToldBatch>,
     /// What was judged. The thread that takes the verdicts sends it back, since the judge has more to do.
-    pub batch: LeanBatch<'p>,
+    pub batch: Boxed<LeanBatch<'p>>,
 }
 
 impl<'p> Item for Judged<'p> {

@@ -1,5 +1,5 @@
 //! Batches on their way back to the first stage.
-ghost use Rattle.std.specs.Prelude.{false, IfOk};
+ghost use Rattle.std.specs.Prelude.{◌≡◌, false, IfOk};
 ghost use Rattle.dp_lean_region.specs.LeanEpoch.{IsLeanEpoch};
 ghost use Rattle.dp_lean_region.specs.Line.{IsLineOf};
 ghost use Rattle.dp_pipeline.specs.Carried.{lean_of};
@@ -9,7 +9,7 @@ ghost use Rattle.dp_pipeline.specs.steps.Supplying.{Supplies};
 
 use crate::keys::LaneKey;
 use crate::supply::Supply;
-use dp_base::NoMemory;
+use dp_base::{Boxed, NoMemory};
 use dp_judge::ToldBatch;
 use dp_lane::{LaneItem, SendEnd, lane};
 use dp_lean_machine::LeanBatch;
@@ -20,9 +20,30 @@ use std::sync::Wait;
 /// A batch whose room is used again: it is one of its epoch's line, and what else it says means nothing.
 #[derive(Drop)]
 pub struct Spare<'p> {
-    pub batch: LeanBatch<'p>,
+    pub batch: Boxed<LeanBatch<'p>>,
     /// Room for verdicts.
-    pub told: ToldBatch,
+    pub told: Boxed<ToldBatch>,
+}
+
+impl<'p> Spare<'p> {
+    ghost use Rattle.dp_lean_machine.specs.Fresh.{IsFresh};
+
+    /// A new one, which is the batch of so many iterations from this one on.
+    pub(crate) fn new(
+        alloc: Global,
+        line: Line<'p>,
+        first: u64,
+        size: usize,
+    ) -> Result<Spare<'p>, NoMemory>
+        ensures fresh { IfOk result (λ spare. IsFresh line.entry first size spare.batch) }
+        ensures line { IfOk result (λ spare. spare.batch.line ≡ line.entry) }
+    {
+        let batch = LeanBatch::new(alloc, line, first, size)?;
+        Ok(Spare {
+            batch: Boxed::new(alloc, batch)?,
+            told: Boxed::new(alloc, ToldBatch::new(alloc))?,
+        })
+    }
 }
 
 impl<'p> LaneItem for Spare<'p> {

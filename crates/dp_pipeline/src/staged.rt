@@ -20,13 +20,13 @@ impl<'p> Stage<Carried<'p>, Carried<'p>> for Staged {
 
     // Only here is the gate known, since a call that it goes along with isn't covered in a trait's method.
     fn run<G: Gate>(&mut self, gate: &G, item: Carried<'p>) -> Made<Carried<'p>> {
-        let Carried { batch, told } = item;
-        let first = batch.first();
-        for place in 0..batch.iterations() {
+        let Carried { mut batch, told } = item;
+        let first = batch.get().first();
+        for place in 0..batch.get().iterations() {
             gate.enter(self.stage, first.saturating_add(place as u64));
         }
-        let batch = self.machine.run(batch);
-        let last = is_last_batch(&batch, self.fuel);
+        self.machine.run(batch.get_mut());
+        let last = is_last_batch(batch.get(), self.fuel);
         Made {
             item: Carried { batch, told },
             last,

@@ -7,9 +7,7 @@ ghost use Rattle.dp_pipeline.specs.steps.Supplying.{IsSupplied, Supplies};
 
 use crate::spare::Spare;
 use dp_base::NoMemory;
-use dp_judge::ToldBatch;
 use dp_lane::TakeEnd;
-use dp_lean_machine::LeanBatch;
 use dp_lean_region::Line;
 use std::alloc::Global;
 use std::sync::Wait;
@@ -22,7 +20,7 @@ pub struct Supply<'p> {
     /// Where batches come back that were judged.
     pub(crate) spares: TakeEnd<Spare<'p>>,
     /// The one that says that there is no memory for another.
-    pub(crate) last: Option<LeanBatch<'p>>,
+    pub(crate) last: Option<Spare<'p>>,
 }
 
 impl<'p> Supply<'p> {
@@ -33,9 +31,9 @@ impl<'p> Supply<'p> {
     ) -> Result<Supply<'p>, NoMemory>
         ensures line { IfOk result (λ supply. supply.line ≡ line.entry) }
         ensures spares { IfOk result (λ supply. supply.spares ≡ spares.entry) }
-        ensures last { IfOk result (λ supply. IfSome supply.last (λ batch. batch.line ≡ line.entry)) }
+        ensures last { IfOk result (λ supply. IfSome supply.last (λ spare. spare.batch.line ≡ line.entry)) }
     {
-        let last = LeanBatch::new(alloc, line, 0, 0)?;
+        let last = Spare::new(alloc, line, 0, 0)?;
         Ok(Supply {
             alloc,
             line,
@@ -54,46 +52,47 @@ impl<'p> Supply<'p> {
         ensures no_spare { (self.new.last ≡ self.old.last) ⊎ (self.new.spares ≡ refused_once self.old.spares) }
     {
         match self.spares.take(rt) {
-            Some(Spare { batch, told }) => Some(Spare {
-                batch: batch.renew(first, size as usize),
-                told,
-            }),
-            None => match self.made(first, size) {
-                Some(batch) => Some(Spare {
-                    batch,
-                    told: ToldBatch::new(self.alloc),
-                }),
-                None => None,
-            },
+            Some(spare) => {
+                let mut spare = spare;
+                spare.batch.get_mut().renew(first, size as usize);
+                Some(spare)
+            }
+            None => self.made(first, size),
         }
     }
 
     /// A new batch.
-    fn made(&mut self, first: u64, size: u64) -> Option<LeanBatch<'p>>
-        ensures fresh { IfSome result (λ batch. IsSupplied self.old first size batch) }
+    fn made(&mut self, first: u64, size: u64) -> Option<Spare<'p>>
+        ensures fresh { IfSome result (λ spare. IsSupplied self.old first size spare.batch) }
         ensures stays { (key : UnitsKey) → Supplies self.old key → Supplies self.new key }
         ensures none { IfNone result (self.old.last ≡ None) }
         ensures kept { IfNone result (self.new.last ≡ self.old.last) }
         ensures spares { self.new.spares ≡ self.old.spares }
-        ensures spent { IfSome result (λ batch. (batch.status ≡ state.NoMemory) ⊎ (self.new.last ≡ self.old.last)) }
+        ensures spent { IfSome result (λ spare. (spare.batch.status ≡ state.NoMemory) ⊎ (self.new.last ≡ self.old.last)) }
     {
-        match LeanBatch::new(self.alloc, self.line, first, size as usize) {
-            Ok(batch) => Some(batch),
+        match Spare::new(self.alloc, self.line, first, size as usize) {
+            Ok(spare) => Some(spare),
             Err(NoMemory) => self.wanting(first, size),
         }
     }
 
     /// The batch that says that memory is wanting.
-    fn wanting(&mut self, first: u64, size: u64) -> Option<LeanBatch<'p>>
-        ensures fresh { IfSome result (λ batch. IsSupplied self.old first size batch) }
+    fn wanting(&mut self, first: u64, size: u64) -> Option<Spare<'p>>
+        ensures fresh { IfSome result (λ spare. IsSupplied self.old first size spare.batch) }
         ensures stays { (key : UnitsKey) → Supplies self.old key → Supplies self.new key }
         ensures none { IfNone result (self.old.last ≡ None) }
         ensures kept { IfNone result (self.new.last ≡ self.old.last) }
         ensures spares { self.new.spares ≡ self.old.spares }
-        ensures wanting { IfSome result (λ batch. batch.status ≡ state.NoMemory) }
+        ensures wanting { IfSome result (λ spare. spare.batch.status ≡ state.NoMemory) }
     {
         match self.last.take() {
-            Some(last) => Some(last.renew(first, size as usize).wanting()),
+            Some(last) => {
+                let mut last = last;
+                let batch = last.batch.get_mut();
+                batch.renew(first, size as usize);
+                batch.wanting();
+                Some(last)
+            }
             None => None,
         }
     }

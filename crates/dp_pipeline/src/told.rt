@@ -62,9 +62,9 @@ impl Told {
         ensures given { self.new.given ≡ self.old.given }
         ensures line { result.batch.line ≡ judged.entry.batch.line }
     {
-        let Judged { told, batch } = judged;
-        self.over = is_last_told(&batch, &told);
-        let spent = mem::replace(&mut self.batch, told);
-        Spare { batch, told: spent }
+        let Judged { mut told, batch } = judged;
+        self.over = is_last_told(batch.get(), told.get());
+        mem::swap(&mut self.batch, told.get_mut());
+        Spare { batch, told }
     }
 }

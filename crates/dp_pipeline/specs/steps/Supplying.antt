@@ -1,5 +1,5 @@
 -- Batches of which nothing was told yet, and those that come back for them.
-use Rattle.std.specs.Prelude.{◌≡◌, ◌+◌, ◌-◌, ℕ, suc, Bool, min, max, IfSome}
+use Rattle.std.specs.Prelude.{◌≡◌, ◌+◌, ◌-◌, ℕ, suc, min, max, IfSome}
 use Rattle.dp_relay.specs.UnitsKey.{UnitsKey}
 use Rattle.dp_lean_region.specs.LeanEpoch.{IsLeanEpoch}
 use Rattle.dp_lean_region.specs.Line.{IsLineOf}
@@ -15,7 +15,7 @@ pub record Supplies (x : Supply) (key : UnitsKey) : Type 0 where
   pub epoch : IsLeanEpoch (lean_of key)
   pub line : IsLineOf (lean_of key) x.line
   pub spares : ComesBack x.spares.view key
-  pub last : IfSome x.last (λ batch. IsLineOf (lean_of key) batch.line)
+  pub last : IfSome x.last (λ spare. IsLineOf (lean_of key) spare.batch.line)
 
 -- It is what comes to stage 1 of each batch of such an epoch that begins with this iteration and may have so many.
 abbrev pub IsSupplied : Supply → ℕ → ℕ → LeanBatch → Type 0

@@ -25,8 +25,8 @@ invariant_of-batch g c = record {
   kinds =
       ap (map kinds_in) (c.exchanged-given.ensures.now ∙ ap (λ (xs : List StageColumns). slice_set xs c.args.place c.run_over-done.result.desk.own)
       c.exchanged-taken.ensures.now)
-      ∙ kinds_back c.args.batch.now.stages c.args.place c.args.desk.own c.run_over-done.result.desk.own c.exchanged-taken.result.own c.exchanged-taken.ensures.was
-      c.run_over-done.ensures.kinds
+      ∙ kinds_back c.args.batch.now.stages c.args.place c.args.desk.own c.run_over-done.result.desk.own c.exchanged-taken.result.own
+      c.exchanged-taken.ensures.was c.run_over-done.ensures.kinds
       ∙ c.args.batch.now.kinds;
 }
 

@@ -1,4 +1,3 @@
-use Rattle.std.proofs.Common.{◌≡◌}
 use Rattle.dp_pipeline.proofs.staged.StagedStageCarriedCarried.run.Given as goal
 
 abbrev pub invariant-loop-place : goal.invariant-loop-place
