@@ -1,6 +1,6 @@
 -- The clean iterations that weren't given yet.
-use Rattle.std.proofs.Common.{◌≡◌, ◌&&◌, Bool, not, refl, sym, ap, ◌∙◌, arith, ℕ, zero, suc, ◌+◌, ◌-◌, ◌≤◌, List, [], ◌∷◌, ◌++◌, ℤ, length, take, drop, sum_by, min}
-use Rattle.std.proofs.Common.{Result, Ok, Err, OnOk, Some, slice_get, drop-drop, inl, inr, nat_le, le-leb, leb-true}
+use Rattle.std.proofs.Common.{◌≡◌, ◌&&◌, Bool, not, refl, sym, ap, ◌∙◌, arith, ℕ, zero, suc, ◌+◌, ◌-◌, ◌≤◌, List, [], ◌∷◌, ◌++◌, ℤ, length, take}
+use Rattle.std.proofs.Common.{drop, sum_by, min, Result, Ok, Err, OnOk, Some, slice_get, drop-drop, inl, inr, nat_le, le-leb, leb-true}
 use Rattle.std.proofs.lemmas.List.{take-append-le, drop-append-le, length-append, length-drop}
 use Rattle.std.proofs.lemmas.List.Sums.{sum_by-cons}
 use Rattle.std.proofs.lemmas.Bool.{cases_Bool, cases_lt}
@@ -211,7 +211,9 @@ one_on (y ∷ ys) (suc i) x is = let low = one_on ys i x is in omega (arith, low
 
 -- behind the last part no clean iteration is left
 pub none_clean : (t : ToldBatch) → length t.parts ≤ t.given → cleans t ≡ []
-none_clean t past = ap (λ (ps : List Part). cleans_from ps (drop t.stores_given t.collected.stores) (drop t.prints_given t.collected.prints)) (drop_of_length-le t.parts past)
+none_clean t past =
+    ap (λ (ps : List Part). cleans_from ps (drop t.stores_given t.collected.stores) (drop t.prints_given t.collected.prints))
+    (drop_of_length-le t.parts past)
 
 cleans_go : (parts : List Part) (stores : List StoreOf) (prints : List ℤ) → list_all goes_on_behind (cleans_from parts stores prints) ≡ none_closing parts
 cleans_go [] stores prints = refl

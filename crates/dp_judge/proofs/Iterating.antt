@@ -29,7 +29,6 @@ use Rattle.dp_lean_judge.specs.declared.judge.LeanJudged.{LeanJudged}
 use Rattle.dp_lean_judge.specs.declared.judge.LeanJudged.TheVariants as judged
 use Rattle.dp_lean_epoch.specs.Own.{steps_at, told_upto, loads_upto}
 use Rattle.dp_lean_epoch.specs.Coming.{QueuesBring, LoadsComing, LeanJudges}
-use Rattle.dp_lean_epoch.specs.Steps.{without_locals}
 use Rattle.dp_lean_epoch.specs.LeanBatch.{steps_among}
 use Rattle.dp_lean_epoch.specs.JudgeSteps as judge
 use Rattle.dp_lean_epoch.specs.JudgeSteps.{fuel_before, lean_carried, lean_verdict, lean_verdict_by, again_at}

@@ -40,10 +40,7 @@ pub(crate) struct Bench {
 // By hand, so that a crate above doesn't prove again how all that it holds is dropped.
 impl Drop for Bench {
     fn drop(self) {
-        let Bench {
-            left: _,
-            cells: _,
-        } = self;
+        let Bench { left: _, cells: _ } = self;
     }
 }
 

@@ -1,5 +1,5 @@
 //! What an iteration's judging collects, and what brings the memory back.
-ghost use Rattle.std.specs.Prelude.{◌≡◌, ◌++◌, ◌∷◌, [], get_or, map, pos, slice_set, true, OnOk, OnErr};
+ghost use Rattle.std.specs.Prelude.{◌≡◌, ◌∷◌, [], get_or, map, pos, slice_set, true, OnOk, OnErr};
 ghost use Rattle.dp_tree.specs.Step.{Stored};
 ghost use Rattle.dp_columns.specs.Paired.{pairs_of, as_store};
 ghost use Rattle.dp_lean_judge.specs.Collecting.{Grows, StoresDone, SameBefore, undone};

@@ -139,7 +139,8 @@ condition_entry : entry_of stale_step step_plan code 1 (Plain (op.ConsumeBranch 
 unfolding tree_opened expr_code stmt_code landing
 condition_entry = refl
 
-block_entry : entry_of stale_step step_plan blocks 6 (Meet (site 6)) ≡ Block (record { reader = 1; column = 4; checked = false; opens = false; compares = true }) 6
+block_entry : entry_of stale_step step_plan blocks 6 (Meet (site 6))
+    ≡ Block (record { reader = 1; column = 4; checked = false; opens = false; compares = true }) 6
 unfolding tree_opened expr_code stmt_code landing
 block_entry = refl
 
