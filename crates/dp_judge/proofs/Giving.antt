@@ -1,7 +1,7 @@
 -- The clean iterations that weren't given yet.
-use Rattle.std.proofs.Common.{◌≡◌, ◌&&◌, Bool, not, refl, sym, ap, ◌∙◌, arith, ℕ, zero, suc, ◌+◌, ◌≤◌, List, [], ◌∷◌, ◌++◌, ℤ, length, take, drop, sum_by, min}
-use Rattle.std.proofs.Common.{Some, slice_get, drop-drop, inl, inr, nat_le, le-leb, leb-true}
-use Rattle.std.proofs.lemmas.List.{take-append-le, drop-append-le, length-drop}
+use Rattle.std.proofs.Common.{◌≡◌, ◌&&◌, Bool, not, refl, sym, ap, ◌∙◌, arith, ℕ, zero, suc, ◌+◌, ◌-◌, ◌≤◌, List, [], ◌∷◌, ◌++◌, ℤ, length, take}
+use Rattle.std.proofs.Common.{drop, sum_by, min, Result, Ok, Err, OnOk, Some, slice_get, drop-drop, inl, inr, nat_le, le-leb, leb-true}
+use Rattle.std.proofs.lemmas.List.{take-append-le, drop-append-le, length-append, length-drop}
 use Rattle.std.proofs.lemmas.List.Sums.{sum_by-cons}
 use Rattle.std.proofs.lemmas.Bool.{cases_Bool, cases_lt}
 use Rattle.std.proofs.Math.Seq.{take-length, drop-length}
@@ -9,21 +9,22 @@ use Rattle.std.proofs.Math.ListN.{drop_of_length-le}
 use Rattle.dp_base.specs.declared.StoreOf.{StoreOf}
 use Rattle.std.specs.List.{list_all}
 use Rattle.std.proofs.lemmas.List.Folds.{list_all-append}
+use Rattle.dp_lean_judge.specs.declared.collected.Collected.{Collected}
 use Rattle.dp_judge.specs.Told.{goes_on_behind}
 use Rattle.dp_judge.specs.declared.verdict.Verdict.{Verdict}
 use Rattle.dp_judge.specs.declared.verdict.Verdict.TheVariants.{Clean}
 use Rattle.dp_columns.proofs.Places.{rest_at}
 use Rattle.dp_judge.specs.Decided.{cleans, cleans_from, end_verdicts, left_to_give}
-use Rattle.dp_judge.specs.steps.Adding.{IsUngiven, none_closing}
+use Rattle.dp_judge.specs.steps.Adding.{AddedTo, GrownTo, IsUngiven, none_closing}
 use Rattle.dp_judge.specs.declared.told.Part.{Part}
 use Rattle.dp_judge.specs.declared.told.ToldBatch.{ToldBatch}
 
 -- where none was given, all are left
-pub open_cleans : (t : ToldBatch) → IsUngiven t → cleans t ≡ cleans_from t.parts t.stores t.prints
+pub open_cleans : (t : ToldBatch) → IsUngiven t → cleans t ≡ cleans_from t.parts t.collected.stores t.collected.prints
 open_cleans t whole =
-    ap (λ (n : ℕ). cleans_from (drop n t.parts) (drop t.stores_given t.stores) (drop t.prints_given t.prints)) whole.given
-    ∙ ap (λ (n : ℕ). cleans_from t.parts (drop n t.stores) (drop t.prints_given t.prints)) whole.stores_given
-    ∙ ap (λ (n : ℕ). cleans_from t.parts t.stores (drop n t.prints)) whole.prints_given
+    ap (λ (n : ℕ). cleans_from (drop n t.parts) (drop t.stores_given t.collected.stores) (drop t.prints_given t.collected.prints)) whole.given
+    ∙ ap (λ (n : ℕ). cleans_from t.parts (drop n t.collected.stores) (drop t.prints_given t.collected.prints)) whole.stores_given
+    ∙ ap (λ (n : ℕ). cleans_from t.parts t.collected.stores (drop n t.collected.prints)) whole.prints_given
 
 -- so many are the parts' of stores, and of prints
 abbrev stores_of : List Part → ℕ
@@ -121,28 +122,86 @@ pass_cleans parts stores prints given from from_prints given_new from_new from_p
     ∙ (λ i. part p (take p.stores (drop from stores)) (take p.prints (drop from_prints prints)) ∷ cleans_from (drop (sym given_is i) parts)
     (behind i) (behind_prints i))
 
+-- the parts' sum with one more is the length with what is behind
+count_more : {X : Type 0} (f : Part → ℕ) (parts : List Part) (last : Part) (n : ℕ) → f last ≡ n → (xs more : List X) → sum_by f parts ≡ length xs →
+    n ≡ length more → sum_by f (parts ++ last ∷ []) ≡ length (xs ++ more)
+count_more f [] last n is xs more all many =
+    let one = sum_by-cons f last [] in let both = length-append xs more in omega (arith, one, both, is, all, many)
+count_more f (p ∷ parts) last n is xs more all many =
+    let first = sum_by-cons f p (parts ++ last ∷ []) in
+    let was = sum_by-cons f p parts in
+    let rest = count_rest f parts last in
+    let both = length-append xs more in
+    omega (arith, first, was, rest, both, is, all, many)
+  where
+    count_rest : (f : Part → ℕ) (parts : List Part) (last : Part) → sum_by f (parts ++ last ∷ []) ≡ sum_by f parts + f last
+    count_rest f [] last = let one = sum_by-cons f last [] in omega (arith, one)
+    count_rest f (p ∷ parts) last =
+        let first = sum_by-cons f p (parts ++ last ∷ []) in let was = sum_by-cons f p parts in let rest = count_rest f parts last in
+        omega (arith, first, was, rest)
+
+pub ok_then : {T E P Q : Type 0} (r : Result T E) → (P → Q) → OnOk r P → OnOk r Q
+ok_then (Ok x) go p = go p
+ok_then (Err e) go p = tt
+
+-- so many more are behind
+pub many_more : {X : Type 0} (xs more all : List X) (from : ℕ) → all ≡ xs ++ more → from ≡ length xs → length all - from ≡ length more
+many_more xs more all from is begins = let both = length-append xs more in let whole = ap length is in omega (arith, both, whole, begins)
+
 -- What stands behind those of a batch of which none was given yet is none's; and one part more has it.
-module _ (t u : ToldBatch) (whole : IsUngiven t) (given : u.given ≡ t.given) (stores_given : u.stores_given ≡ t.stores_given)
-    (prints_given : u.prints_given ≡ t.prints_given)
-    (more : List StoreOf) (stores : u.stores ≡ t.stores ++ more) (others : List ℤ) (prints : u.prints ≡ t.prints ++ others) where
-  opened : cleans u ≡ cleans_from u.parts (t.stores ++ more) (t.prints ++ others)
+module _ (t u : ToldBatch) (whole : IsUngiven t) (grown : GrownTo t u) where
+  abbrev more : List StoreOf
+  more = grown.grows.more
+
+  abbrev others : List ℤ
+  others = grown.grows.others
+
+  opened : cleans u ≡ cleans_from u.parts (t.collected.stores ++ more) (t.collected.prints ++ others)
   opened =
-      let none = given ∙ whole.given in
-      let no_stores = stores_given ∙ whole.stores_given in
-      let no_prints = prints_given ∙ whole.prints_given in
-      λ i. cleans_from (drop (none i) u.parts) (drop (no_stores i) (stores i)) (drop (no_prints i) (prints i))
+      let none = grown.given ∙ whole.given in
+      let no_stores = grown.stores_given ∙ whole.stores_given in
+      let no_prints = grown.prints_given ∙ whole.prints_given in
+      λ i. cleans_from (drop (none i) u.parts) (drop (no_stores i) (grown.grows.stores i)) (drop (no_prints i) (grown.grows.prints i))
 
-  pub cleans_stay : u.parts ≡ t.parts → cleans u ≡ cleans t
-  cleans_stay same =
-      opened ∙ ap (λ (ps : List Part). cleans_from ps (t.stores ++ more) (t.prints ++ others)) same
-      ∙ front_cleans t.parts t.stores more t.prints others whole.stores whole.prints ∙ sym (open_cleans t whole)
+  pub cleans_stay : cleans u ≡ cleans t
+  cleans_stay =
+      opened ∙ ap (λ (ps : List Part). cleans_from ps (t.collected.stores ++ more) (t.collected.prints ++ others)) grown.parts
+      ∙ front_cleans t.parts t.collected.stores more t.collected.prints others whole.stores whole.prints ∙ sym (open_cleans t whole)
 
-  pub cleans_grow : (last : Part) → last.stores ≡ length more → last.prints ≡ length others → u.parts ≡ t.parts ++ last ∷ [] →
-      cleans u ≡ cleans t ++ part last more others ∷ []
-  cleans_grow last is is_prints parts =
-      opened ∙ ap (λ (ps : List Part). cleans_from ps (t.stores ++ more) (t.prints ++ others)) parts
-      ∙ more_cleans t.parts t.stores more t.prints others last is is_prints whole.stores whole.prints
-      ∙ ap (λ (vs : List Verdict). vs ++ part last more others ∷ []) (sym (open_cleans t whole))
+  module _ (new : ToldBatch) (given : new.given ≡ u.given) (stores_given : new.stores_given ≡ u.stores_given)
+      (prints_given : new.prints_given ≡ u.prints_given) (same : new.collected ≡ u.collected)
+      (last : Part) (is : last.stores ≡ length more) (is_prints : last.prints ≡ length others) (parts : new.parts ≡ u.parts ++ last ∷ []) where
+    parts_are : new.parts ≡ t.parts ++ last ∷ []
+    parts_are = parts ∙ ap (λ (ps : List Part). ps ++ last ∷ []) grown.parts
+
+    stores_are : new.collected.stores ≡ t.collected.stores ++ more
+    stores_are = ap (λ (c : Collected). c.stores) same ∙ grown.grows.stores
+
+    prints_are : new.collected.prints ≡ t.collected.prints ++ others
+    prints_are = ap (λ (c : Collected). c.prints) same ∙ grown.grows.prints
+
+    grown_opened : cleans new ≡ cleans_from (t.parts ++ last ∷ []) (t.collected.stores ++ more) (t.collected.prints ++ others)
+    grown_opened =
+        let none = given ∙ grown.given ∙ whole.given in
+        let no_stores = stores_given ∙ grown.stores_given ∙ whole.stores_given in
+        let no_prints = prints_given ∙ grown.prints_given ∙ whole.prints_given in
+        λ i. cleans_from (drop (none i) (parts_are i)) (drop (no_stores i) (stores_are i)) (drop (no_prints i) (prints_are i))
+
+    pub cleans_grow : (steps : ℕ) (closing : Bool) → last.steps ≡ steps → last.closing ≡ closing → AddedTo t u grown steps closing new
+    cleans_grow steps closing steps_are closes = record {
+      ungiven = record {
+        given = given ∙ grown.given ∙ whole.given;
+        stores_given = stores_given ∙ grown.stores_given ∙ whole.stores_given;
+        prints_given = prints_given ∙ grown.prints_given ∙ whole.prints_given;
+        stores = ap stores_of parts_are ∙ count_more (λ (p : Part). p.stores) t.parts last (length more) is t.collected.stores more whole.stores refl
+            ∙ ap length (sym stores_are);
+        prints = ap prints_of parts_are ∙ count_more (λ (p : Part). p.prints) t.parts last (length others) is_prints t.collected.prints others whole.prints refl
+            ∙ ap length (sym prints_are);
+      };
+      told = grown_opened ∙ more_cleans t.parts t.collected.stores more t.collected.prints others last is is_prints whole.stores whole.prints
+          ∙ ap (λ (vs : List Verdict). vs ++ part last more others ∷ []) (sym (open_cleans t whole))
+          ∙ (λ i. cleans t ++ Clean (record { stores = more; prints = others; steps = steps_are i; closing = closes i }) ∷ []);
+    }
 
 -- the next place
 pub one_on : {X : Type 0} (xs : List X) (i : ℕ) (x : X) → slice_get xs i ≡ Some x → min (i + 1) (length xs) ≡ suc i
@@ -152,7 +211,9 @@ one_on (y ∷ ys) (suc i) x is = let low = one_on ys i x is in omega (arith, low
 
 -- behind the last part no clean iteration is left
 pub none_clean : (t : ToldBatch) → length t.parts ≤ t.given → cleans t ≡ []
-none_clean t past = ap (λ (ps : List Part). cleans_from ps (drop t.stores_given t.stores) (drop t.prints_given t.prints)) (drop_of_length-le t.parts past)
+none_clean t past =
+    ap (λ (ps : List Part). cleans_from ps (drop t.stores_given t.collected.stores) (drop t.prints_given t.collected.prints))
+    (drop_of_length-le t.parts past)
 
 cleans_go : (parts : List Part) (stores : List StoreOf) (prints : List ℤ) → list_all goes_on_behind (cleans_from parts stores prints) ≡ none_closing parts
 cleans_go [] stores prints = refl
@@ -163,5 +224,5 @@ pub goes_on_so : (t : ToldBatch) → (none_closing (drop t.given t.parts) && lis
     goes_on_behind (left_to_give t)
 goes_on_so t =
     ap (λ (test : Bool). test && list_all goes_on_behind (end_verdicts t.end))
-    (sym (cleans_go (drop t.given t.parts) (drop t.stores_given t.stores) (drop t.prints_given t.prints)))
+    (sym (cleans_go (drop t.given t.parts) (drop t.stores_given t.collected.stores) (drop t.prints_given t.collected.prints)))
     ∙ sym (list_all-append goes_on_behind (cleans t) (end_verdicts t.end))

@@ -1,6 +1,6 @@
 -- One iteration of a batch is decided.
 use Rattle.dp_semantics.proofs.Names.{◌≡◌, refl, sym, ap, ◌∙◌, subst, inl, inr, arith, ℕ, suc, ◌+◌, ◌-◌, ◌<◌, ◌≤◌, ◌++◌, Bool, true, false, not, List, [], ◌∷◌}
-use Rattle.dp_semantics.proofs.Names.{ℤ, Some, length, map, flat_map, nat_le, le-leb, leb-true, cases_Bool, Load}
+use Rattle.dp_semantics.proofs.Names.{ℤ, Some, length, drop, drop-append_seam, map, flat_map, nat_le, le-leb, leb-true, cases_Bool, Load}
 use Rattle.dp_base.specs.declared.CellId.{CellId}
 use Rattle.dp_base.specs.declared.Cause.{Cause}
 use Rattle.dp_tree.specs.Numbering.{numbers_from}
@@ -13,6 +13,8 @@ use Rattle.dp_lean_judge.specs.Locals.{clear_cells}
 use Rattle.dp_judge.specs.declared.verdict.Verdict.{Verdict}
 use Rattle.dp_judge.specs.declared.verdict.Verdict.TheVariants as verdict
 use Rattle.dp_lean_judge.proofs.LocalLemmas.{clear_local_cells}
+use Rattle.dp_lean_judge.proofs.SomeChecked.{compares_where}
+use Rattle.dp_lean_judge.specs.Collecting.{Grows}
 use Rattle.dp_lean.specs.Queues.{Told}
 use Rattle.dp_lean.specs.LeanJudge.{LeanJudging, LeanJudgement, JudgesIn, lean_judging}
 use Rattle.dp_lean.specs.LeanJudge as lean
@@ -27,7 +29,6 @@ use Rattle.dp_lean_judge.specs.declared.judge.LeanJudged.{LeanJudged}
 use Rattle.dp_lean_judge.specs.declared.judge.LeanJudged.TheVariants as judged
 use Rattle.dp_lean_epoch.specs.Own.{steps_at, told_upto, loads_upto}
 use Rattle.dp_lean_epoch.specs.Coming.{QueuesBring, LoadsComing, LeanJudges}
-use Rattle.dp_lean_epoch.specs.Steps.{without_locals}
 use Rattle.dp_lean_epoch.specs.LeanBatch.{steps_among}
 use Rattle.dp_lean_epoch.specs.JudgeSteps as judge
 use Rattle.dp_lean_epoch.specs.JudgeSteps.{fuel_before, lean_carried, lean_verdict, lean_verdict_by, again_at}
@@ -40,6 +41,9 @@ use Rattle.dp_judge.specs.steps.Within.{JudgesBy, CameIn, CleanTo, Within, Close
 use Rattle.dp_judge.specs.steps.Deciding.{SeesAs}
 use Rattle.dp_judge.proofs.Telling.{told_more, go_on_too, last_there, one_longer}
 use Rattle.dp_judge.proofs.Ends.{Held, held, differs, again_said, goes_said, differs_again}
+
+same_behind : {X : Type 0} (xs ys zs : List X) → xs ++ ys ≡ xs ++ zs → ys ≡ zs
+same_behind xs ys zs is = sym (drop-append_seam xs ys) ∙ ap (drop (length xs)) is ∙ drop-append_seam xs zs
 
 -- where nothing has changed the judging stands as it did
 pub clean_still : (e : LeanEpoch) (b place left left_new : ℕ) (cells cells_new : List ℤ) (told told_new : List Verdict) →
@@ -72,15 +76,19 @@ module _ (e : LeanEpoch) (b n place : ℕ) (stages : List StageColumns) (came : 
   abbrev loads_behind : ℕ → List (List Load)
   loads_behind y = flat_map (loads_upto m key all y) (numbers_from (here + 1) others) ++ at.coming.more_loads y
 
+  -- the memory with which the lean judging begins
+  abbrev kept : List ℤ
+  kept = at.clean.stands.kept
+
   abbrev Decided : Type 0
-  Decided = (end : LeanJudgement) × JudgesIn key.program key.plan m (lean_judging key.program key.plan m cells at.coming.queues at.coming.loads) end
+  Decided = (end : LeanJudgement) × JudgesIn key.program key.plan m (lean_judging key.program key.plan m kept at.coming.queues at.coming.loads) end
       × judge.JudgedAsDefined m key here behind loads_behind end
 
   decided : Decided
   decided =
       let rest : n - place ≡ suc others = omega (arith, low) in
       let come = came.epoch.laws.one_by_one all here others in
-      came.laws.steps here at.clean.goes (came.arrive place low) cells at.clean.stands.cells at.coming.queues behind
+      came.laws.steps here at.clean.goes (came.arrive place low) kept at.clean.stands.cells at.coming.queues behind
       (come.told at.coming.queues at.coming.more (subst (λ (j : ℕ). QueuesBring m key all here j at.coming.queues at.coming.more) rest at.coming.told))
       at.coming.loads loads_behind
       (come.loads at.coming.loads at.coming.more_loads (subst (λ (j : ℕ). LoadsComing m key here j at.coming.loads at.coming.more_loads) rest at.coming.loaded))
@@ -104,36 +112,37 @@ module _ (e : LeanEpoch) (b n place : ℕ) (stages : List StageColumns) (came : 
         | inr less_steps ↦ less_steps
       ]
 
-  module _ (tables : JudgeTables) (by : JudgesBy e tables) (answer : LeanJudged) (cells_new : List ℤ) (readers_new : List Left) (collected : Collected)
-      (looks : SeesAs tables.ready.now cells readers answer cells_new readers_new collected) where
+  module _ (tables : JudgeTables) (by : JudgesBy e tables) (start : Collected) (answer : LeanJudged) (cells_new : List ℤ) (readers_new : List Left)
+      (collected : Collected) (grows : Grows start collected)
+      (looks : SeesAs tables.ready.now cells readers start answer cells_new readers_new collected) where
     abbrev Ended : Type 0
     Ended = (ops : ℕ) × (end : JudgeEnd)
         × (judge_flat key.program key.plan (lean_code key.program key.plan (last key.plan) m) ops
-        (judge_begin cells at.coming.queues at.coming.loads) ≡ Some end)
+        (judge_begin kept at.coming.queues at.coming.loads) ≡ Some end)
         × SaysSame end decided.0
 
     ended : Ended
-    ended = came.laws.code cells at.coming.queues at.coming.loads decided.0 decided.1
+    ended = came.laws.code kept at.coming.queues at.coming.loads decided.0 decided.1
 
     abbrev Seen : Type 0
-    Seen = (tells : Bool) × JudgingEnds key.program key.plan tells ended.1 answer cells_new readers_new collected
+    Seen = JudgingEnds key.program key.plan start ended.1 answer cells_new readers_new collected
 
     seen : Seen
-    seen = looks key.program key.plan (lean_code key.program key.plan (last key.plan) m) at.coming.queues at.coming.loads by.ready at.coming.shows
-        ended.0 ended.1 ended.2
+    seen = looks key.program key.plan (lean_code key.program key.plan (last key.plan) m) at.coming.queues at.coming.loads kept by.ready at.clean.stands.same
+        at.coming.shows ended.0 ended.1 ended.2
 
     -- it is executed again where what was compared differs
     pub differs_then : answer ≡ judged.Differs → (cause : Cause) × (Again cause ≡ verdict_at key here)
     differs_then is =
-        let same = differs key.program key.plan cells_new readers_new collected seen.0 ended.1 decided.0 ended.3
-        (subst (λ (a : LeanJudged). JudgingEnds key.program key.plan seen.0 ended.1 a cells_new readers_new collected) is seen.1) in
+        let same = differs key.program key.plan cells_new readers_new start collected ended.1 decided.0 ended.3
+        (subst (λ (a : LeanJudged). JudgingEnds key.program key.plan start ended.1 a cells_new readers_new collected) is seen) in
         let enough = nat_le (steps_at m key here) (fuel_before m key here) in
         again_is (lean_verdict_by m key here enough lean.Differs) (ap (lean_verdict_by m key here enough) same) (differs_again m key here enough)
 
     module _ (closing : Bool) (holds : answer ≡ judged.Holds closing) (after : ℕ) (leaves : left ≡ after + steps_among (map held_in stages) place) where
-      h : Held key.program key.plan cells_new readers_new collected closing decided.0
-      h = held key.program key.plan cells_new readers_new collected seen.0 closing ended.1 decided.0 ended.3
-          (subst (λ (a : LeanJudged). JudgingEnds key.program key.plan seen.0 ended.1 a cells_new readers_new collected) holds seen.1)
+      h : Held key.program key.plan cells_new readers_new start collected closing decided.0
+      h = held key.program key.plan cells_new readers_new start collected closing ended.1 decided.0 ended.3
+          (subst (λ (a : LeanJudged). JudgingEnds key.program key.plan start ended.1 a cells_new readers_new collected) holds seen)
 
       enough : steps_at m key here ≤ fuel_before m key here
       enough = let is = at.clean.stands.left in let steps = steps_are in omega (arith, is, steps, leaves)
@@ -143,12 +152,14 @@ module _ (e : LeanEpoch) (b n place : ℕ) (stages : List StageColumns) (came : 
 
       -- what is carried of it
       abbrev carried : Carried
-      carried = record { stores = collected.stores; prints = collected.prints; steps = left - after; closing = closing }
+      carried = record { stores = grows.more; prints = grows.others; steps = left - after; closing = closing }
 
       carried_is : carried ≡ lean_carried m key here h.judging
       carried_is =
           let counted : left - after ≡ steps_at m key here = (let steps = steps_are in omega (arith, steps, leaves)) in
-          λ i. record { stores = h.stores i; prints = h.prints i; steps = counted i; closing = sym h.closes i }
+          let stores = same_behind start.stores grows.more _ (sym grows.stores ∙ h.stores) in
+          let prints = same_behind start.prints grows.others _ (sym grows.prints ∙ h.prints) in
+          λ i. record { stores = stores i; prints = prints i; steps = counted i; closing = sym h.closes i }
 
       says : SaysTheSame key (verdict_at key here) (Commit carried)
       says = subst (λ (v : Said). SaysTheSame key (verdict_at key here) v)
@@ -169,18 +180,23 @@ module _ (e : LeanEpoch) (b n place : ℕ) (stages : List StageColumns) (came : 
           (subst (λ (i : ℕ). SaysTheSame key (verdict_at key (begin_in e b + i)) (Commit carried)) (sym counted) says)
 
       module _ (locals : List CellId) (locals_are : locals ≡ tables.locals.now) (left_new : ℕ) (left_is : left_new ≡ after) (cells_then : List ℤ)
-          (cells_are : cells_then ≡ clear_cells locals cells_new) where
+          (cells_are : tables.ready.now.compares ≡ true → cells_then ≡ clear_cells locals cells_new) where
+        abbrev kept_then : List ℤ
+        kept_then = clear_cells locals h.judging.turn.turn.cells
+
         stands : (k : ℕ) → k ≡ suc here → JudgingStands e k left_new cells_then
         stands k is = record {
           left =
               (let spent : left_new ≡ key.fuel - (state_at key (suc here)).steps =
               (let was = at.clean.stands.left in let steps = steps_are in let more = next.steps in omega (arith, was, steps, more, leaves, left_is)) in
               spent ∙ ap (λ (i : ℕ). key.fuel - (state_at key i).steps) (sym is));
+          kept = kept_then;
           cells =
-              subst (λ (i : ℕ). LeanJudges key i cells_then) (sym is)
-              (subst (LeanJudges key (suc here))
-              (sym (cells_are ∙ ap (λ (ls : List CellId). clear_cells ls cells_new) (locals_are ∙ by.locals)
-              ∙ clear_local_cells key.plan.region key.program.vars cells_new ∙ ap (without_locals m key) (sym h.memory))) next.cells);
+              subst (λ (i : ℕ). LeanJudges key i kept_then) (sym is)
+              (subst (LeanJudges key (suc here)) (sym (ap (λ (ls : List CellId). clear_cells ls h.judging.turn.turn.cells) (locals_are ∙ by.locals)
+              ∙ clear_local_cells key.plan.region key.program.vars h.judging.turn.turn.cells)) next.cells);
+          same = λ y checked. ap (clear_cells locals) (h.memory y checked)
+              ∙ sym (cells_are (by.ready.compares ∙ compares_where key.program key.plan by.ready.tabled y checked));
         }
 
         -- behind a clean iteration that doesn't leave the region the next one is decided

@@ -11,7 +11,7 @@ use Rattle.dp_judge.specs.declared.told.ToldEnd.{ToldEnd}
 use Rattle.dp_judge.specs.declared.told.ToldEnd.TheVariants as ends
 use Rattle.dp_judge.specs.declared.told.ToldBatch.{ToldBatch}
 
--- the clean iterations of these parts, each of which has the first of the stores and prints that are left
+-- the clean iterations of these parts, each of which has the first of the stores and prints that are left; what stands behind is none's
 abbrev pub cleans_from : List Part → List StoreOf → List ℤ → List Verdict
 cleans_from [] stores prints = []
 cleans_from (p ∷ rest) stores prints =
@@ -38,7 +38,7 @@ verdict_of given.NoMemory stores prints = NoMemory
 module _ (t : ToldBatch) where
   -- the clean iterations that weren't given yet
   abbrev pub cleans : List Verdict
-  cleans = cleans_from (drop t.given t.parts) (drop t.stores_given t.stores) (drop t.prints_given t.prints)
+  cleans = cleans_from (drop t.given t.parts) (drop t.stores_given t.collected.stores) (drop t.prints_given t.collected.prints)
 
   -- all verdicts that weren't given yet
   abbrev pub left_to_give : List Verdict
@@ -46,7 +46,7 @@ module _ (t : ToldBatch) where
 
   -- the verdict that was given last
   abbrev pub last_given : Verdict
-  last_given = verdict_of t.last t.stores t.prints
+  last_given = verdict_of t.last t.collected.stores t.collected.prints
 
 -- Whether a further verdict is given: it is the next one then, and those behind it are left. Else none is left, and the last one stays.
 abbrev pub GivesNext : Bool → ToldBatch → ToldBatch → Type 0

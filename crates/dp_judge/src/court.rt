@@ -71,7 +71,7 @@ impl LeanCourt {
     {
         LeanCourt {
             alloc,
-            bench: Bench::new(alloc, base, left),
+            bench: Bench::new(base, left),
             rooms: Row::new(alloc),
         }
     }

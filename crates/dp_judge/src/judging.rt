@@ -4,20 +4,19 @@ ghost use Rattle.dp_lean_judge.specs.Ready.{AllKept};
 ghost use Rattle.dp_lean_judge.specs.Collecting.{undone};
 ghost use Rattle.dp_lean_region.specs.LeanEpoch.{LeanEpoch};
 ghost use Rattle.dp_judge.specs.Decided.{cleans};
-ghost use Rattle.dp_judge.specs.steps.Adding.{IsUngiven};
+ghost use Rattle.dp_judge.specs.steps.Adding.{GrownTo, IsUngiven, begun_of};
 ghost use Rattle.dp_judge.specs.steps.Within.{CameIn, CameTo, Comes, JudgesBy, Within};
 ghost use Rattle.dp_judge.specs.steps.Deciding.{CommitsSo, SeesAs, going_by};
 ghost use Rattle.dp_judge.specs.declared.judging.Decision.TheVariants as decision;
 
 use crate::fuel::left_behind;
-use crate::told::ToldBatch;
-use dp_base::{CellId, Cells};
+use crate::told::{Begun, ToldBatch};
+use dp_base::Cells;
 use dp_columns::Reader;
-use dp_lean_judge::{Collected, LeanJudged, clear, lean_judge};
+use dp_lean_judge::{LeanJudged, clear, lean_judge};
 use dp_lean_machine::StageColumns;
 use dp_lean_region::JudgeTables;
 use dp_room::Row;
-use std::alloc::Global;
 
 /// What is decided of an iteration, and whether another follows.
 #[derive(Clone, Copy)]
@@ -34,19 +33,14 @@ pub(crate) enum Decision {
 pub(crate) struct Bench {
     /// How many steps are left of the fuel.
     pub(crate) left: u64,
-    /// A memory before the next iteration: what the judging compares is right in it.
+    /// A memory before the next iteration: what the judging compares is right in it. Where it compares nothing, that where the epoch began.
     pub(crate) cells: Cells,
-    pub(crate) collected: Collected,
 }
 
 // By hand, so that a crate above doesn't prove again how all that it holds is dropped.
 impl Drop for Bench {
     fn drop(self) {
-        let Bench {
-            left: _,
-            cells: _,
-            collected: _,
-        } = self;
+        let Bench { left: _, cells: _ } = self;
     }
 }
 
@@ -63,73 +57,53 @@ fn going(closing: bool) -> Decision
 
 impl Bench {
     /// The judging where an epoch begins.
-    pub(crate) fn new(alloc: Global, base: Cells, left: u64) -> Bench
+    pub(crate) fn new(base: Cells, left: u64) -> Bench
         ensures left { result.left ≡ left }
         ensures cells { result.cells ≡ base }
     {
-        Bench {
-            left,
-            cells: base,
-            collected: Collected::new(alloc, false),
-        }
+        Bench { left, cells: base }
     }
 
-    /// Nothing was done.
-    fn undo(&mut self)
-        ensures left { self.new.left ≡ self.old.left }
-        ensures cells { self.new.cells ≡ undone self.old.collected.before self.old.cells }
-    {
-        let Bench {
-            cells,
-            collected,
-            ..
-        } = self;
-        collected.undo(cells);
-    }
-
-    /// What the next iteration's judging comes to.
+    /// What the next iteration's judging comes to. What is collected comes behind what was told.
     fn look<'c>(
         &mut self,
         ready: &dp_lean_judge::Ready,
         readers: &mut Row<Reader<'c>>,
+        told: &mut ToldBatch,
     ) -> LeanJudged
         requires { AllKept readers.old ready.now.entries }
         ensures kept { AllKept readers.new ready.now.entries }
         ensures left { self.new.left ≡ self.old.left }
-        ensures before { undone self.new.collected.before self.new.cells ≡ self.old.cells }
-        ensures judged { SeesAs ready.now self.old.cells readers.old result self.new.cells readers.new self.new.collected }
+        ensures before { undone told.new.collected.before self.new.cells ≡ self.old.cells }
+        ensures grown { GrownTo told.old told.new }
+        ensures judged { SeesAs ready.now self.old.cells readers.old told.old.collected result self.new.cells readers.new told.new.collected }
     {
-        let Bench {
-            cells,
-            collected,
-            ..
-        } = self;
-        lean_judge(ready, cells, readers, collected)
+        lean_judge(ready, &mut self.cells, readers, &mut told.collected)
     }
 
     /// The iteration is clean, and leaves this of the fuel.
-    fn commit(
+    fn commit<'p>(
         &mut self,
-        locals: &[CellId],
+        tables: JudgeTables<'p>,
+        begun: Begun,
         after: u64,
         closing: bool,
         told: &mut ToldBatch,
     ) -> Decision
         requires less { after ≤ self.old.left }
-        requires ungiven { IsUngiven told.old }
-        ensures { CommitsSo locals.now after closing self.old self.new told.old told.new result }
+        ensures { (t : ToldBatch) → IsUngiven t → (grown : GrownTo t told.old) → begun ≡ begun_of t →
+            CommitsSo tables.entry after closing self.old self.new t told.old grown told.new result }
     {
-        let steps = self.left - after;
-        let stores = self.collected.stores.as_slice();
-        let prints = self.collected.prints.as_slice();
-        match told.add(stores, prints, steps, closing) {
+        match told.add(begun, self.left - after, closing) {
             Ok(()) => {
-                clear(locals, &mut self.cells);
+                if tables.ready.compares {
+                    clear(tables.locals, &mut self.cells);
+                }
                 self.left = after;
                 going(closing)
             }
             Err(_) => {
-                self.undo();
+                told.undo(&mut self.cells);
                 Decision::NoMemory
             }
         }
@@ -152,20 +126,21 @@ impl Bench {
             Within e b n place self.old.left self.old.cells readers.old (cleans told.old) →
             Comes e b n place result self.new.left self.new.cells readers.new (cleans told.new) }
     {
-        match self.look(tables.ready, readers) {
+        let begun = told.begun();
+        match self.look(tables.ready, readers, told) {
             LeanJudged::Holds { closing } => match left_behind(self.left, stages, place) {
-                Some(after) => self.commit(tables.locals, after, closing, told),
+                Some(after) => self.commit(tables, begun, after, closing, told),
                 None => {
-                    self.undo();
+                    told.undo(&mut self.cells);
                     Decision::Unclean
                 }
             },
             LeanJudged::Differs => {
-                self.undo();
+                told.undo(&mut self.cells);
                 Decision::Unclean
             }
             LeanJudged::NoMemory => {
-                self.undo();
+                told.undo(&mut self.cells);
                 Decision::NoMemory
             }
         }

@@ -1,15 +1,17 @@
 //! What is decided of a batch, verdict by verdict.
-ghost use Rattle.std.specs.Prelude.{◌≡◌, ◌++◌, ◌∷◌, [], length, slice_get, true, ◌≤◌, Some, OnErr, OnOk};
+ghost use Rattle.std.specs.Prelude.{◌≡◌, ◌++◌, [], length, slice_get, true, ◌≤◌, Some, OnErr, OnOk};
 ghost use Rattle.std.specs.List.{list_all};
+ghost use Rattle.dp_lean_judge.specs.Collecting.{undone};
 ghost use Rattle.dp_judge.specs.Told.{goes_on_behind};
 ghost use Rattle.dp_judge.specs.declared.verdict.Verdict.TheVariants as verdict;
 ghost use Rattle.dp_judge.specs.Decided.{GivesNext, carried_by, cleans, end_verdicts, last_given, left_to_give};
-ghost use Rattle.dp_judge.specs.steps.Adding.{IsUngiven};
+ghost use Rattle.dp_judge.specs.steps.Adding.{AddedTo, GrownTo, IsUngiven, begun_of};
 
 use crate::clean::Clean;
 use crate::parts::{is_over, left_from, none_closes, part_of, place_behind};
 use crate::verdict::Verdict;
-use dp_base::StoreOf;
+use dp_base::Cells;
+use dp_lean_judge::Collected;
 use dp_room::{NoMemory, Row};
 use std::alloc::Global;
 
@@ -20,6 +22,13 @@ pub(crate) struct Part {
     pub(crate) prints: usize,
     pub(crate) steps: u64,
     pub(crate) closing: bool,
+}
+
+/// Where the stores and the prints of an iteration begin.
+#[derive(Clone, Copy)]
+pub(crate) struct Begun {
+    pub(crate) stores: usize,
+    pub(crate) prints: usize,
 }
 
 /// What stands behind the clean iterations.
@@ -47,8 +56,8 @@ pub(crate) enum Last {
 
 /// The verdicts on a batch: the stores and prints of all clean iterations, one behind the other, and how many are each one's.
 pub struct ToldBatch {
-    stores: Row<StoreOf>,
-    prints: Row<i64>,
+    /// Those of an iteration that isn't clean may stand behind.
+    pub(crate) collected: Collected,
     parts: Row<Part>,
     end: ToldEnd,
     /// How many clean iterations were given.
@@ -63,8 +72,7 @@ pub struct ToldBatch {
 impl Drop for ToldBatch {
     fn drop(self) {
         let ToldBatch {
-            stores: _,
-            prints: _,
+            collected: _,
             parts: _,
             end: _,
             given: _,
@@ -82,8 +90,7 @@ impl ToldBatch {
         ensures given { last_given result ≡ verdict.NoMemory }
     {
         ToldBatch {
-            stores: Row::new(alloc),
-            prints: Row::new(alloc),
+            collected: Collected::new(alloc),
             parts: Row::new(alloc),
             end: ToldEnd::Over,
             given: 0,
@@ -99,8 +106,7 @@ impl ToldBatch {
         ensures left { left_to_give self.new ≡ [] }
         ensures ungiven { IsUngiven self.new }
     {
-        self.stores.clear();
-        self.prints.clear();
+        self.collected.clear();
         self.parts.clear();
         self.end = ToldEnd::Over;
         self.given = 0;
@@ -109,29 +115,37 @@ impl ToldBatch {
         self.last = Last::NoMemory;
     }
 
-    /// One clean iteration more.
-    pub(crate) fn add(
-        &mut self,
-        stores: &[StoreOf],
-        prints: &[i64],
-        steps: u64,
-        closing: bool,
-    ) -> Result<(), NoMemory>
-        requires { IsUngiven self.old }
-        ensures ungiven { OnOk result (IsUngiven self.new) }
-        ensures more { OnOk result (cleans self.new ≡ cleans self.old
-            ++ verdict.Clean (record { stores = stores.now; prints = prints.now; steps = steps; closing = closing }) ∷ []) }
-        ensures same { OnErr result (cleans self.new ≡ cleans self.old) }
+    /// Where the stores and the prints of the next clean iteration begin.
+    pub(crate) fn begun(&self) -> Begun
+        ensures { result ≡ begun_of self.now }
     {
-        self.stores.extend_from_slice(stores)?;
-        self.prints.extend_from_slice(prints)?;
+        Begun {
+            stores: self.collected.stores.len(),
+            prints: self.collected.prints.len(),
+        }
+    }
+
+    /// One clean iteration more: its stores and prints are all that has come behind those that were told.
+    pub(crate) fn add(&mut self, begun: Begun, steps: u64, closing: bool) -> Result<(), NoMemory>
+        ensures more { (t : ToldBatch) → IsUngiven t → (grown : GrownTo t self.old) → begun ≡ begun_of t →
+            OnOk result (AddedTo t self.old grown steps closing self.new) }
+        ensures same { OnErr result (cleans self.new ≡ cleans self.old) }
+        ensures collected { self.new.collected ≡ self.old.collected }
+    {
         self.parts.push(Part {
-            stores: stores.len(),
-            prints: prints.len(),
+            stores: self.collected.stores.len().saturating_sub(begun.stores),
+            prints: self.collected.prints.len().saturating_sub(begun.prints),
             steps,
             closing,
-        })?;
-        Ok(())
+        })
+    }
+
+    /// Nothing was done: the memory is again what it was before the iteration.
+    pub(crate) fn undo(&mut self, cells: &mut Cells)
+        ensures cells { cells.new ≡ undone self.old.collected.before cells.old }
+        ensures cleans { cleans self.new ≡ cleans self.old }
+    {
+        self.collected.undo(cells);
     }
 
     /// This stands behind the clean iterations.
@@ -153,10 +167,10 @@ impl ToldBatch {
 
     /// What is carried of the clean iteration of this part, whose stores and prints begin there.
     fn carried(&self, part: Part, stores: usize, prints: usize) -> Clean<'_>
-        ensures { result ≡ carried_by part stores prints self.now.stores self.now.prints }
+        ensures { result ≡ carried_by part stores prints self.now.collected.stores self.now.collected.prints }
     {
-        let stores = part_of(self.stores.as_slice(), stores, part.stores);
-        let prints = part_of(self.prints.as_slice(), prints, part.prints);
+        let stores = part_of(self.collected.stores.as_slice(), stores, part.stores);
+        let prints = part_of(self.collected.prints.as_slice(), prints, part.prints);
         Clean::agree(stores, prints, part.steps, part.closing)
     }
 
@@ -166,8 +180,8 @@ impl ToldBatch {
         ensures { GivesNext true self.old self.new }
     {
         let parts = self.parts.len();
-        let stores = self.stores.len();
-        let prints = self.prints.len();
+        let stores = self.collected.stores.len();
+        let prints = self.collected.prints.len();
         let given = place_behind(self.given, 1, parts);
         let stores_given = place_behind(self.stores_given, part.stores, stores);
         let prints_given = place_behind(self.prints_given, part.prints, prints);

@@ -1,5 +1,6 @@
 mod rows
 pub mod Undoing
+pub mod SomeChecked
 pub mod Storing
 pub mod Taken
 pub mod Comparing

@@ -10,6 +10,7 @@ ghost use Rattle.dp_lean.specs.LeanJudge.{load_holds};
 ghost use Rattle.dp_columns.specs.declared.ColumnKind.TheVariants as kind;
 ghost use Rattle.dp_columns.specs.Paired.{pairs_of, block_told};
 ghost use Rattle.dp_lean_judge.specs.JudgeState.{LeanState};
+ghost use Rattle.dp_lean_judge.specs.Judged.{SameWhereChecked};
 ghost use Rattle.dp_lean_judge.specs.Shown.{ShowsQueues, reader_at};
 ghost use Rattle.dp_lean_judge.specs.Ready.{seat_kind};
 ghost use Rattle.dp_lean_judge.specs.steps.Taking.{Compares, IsSeat, SameKinds, Took, TookOfLoads, told_count};
@@ -86,7 +87,7 @@ fn hold(cells: &Cells, loaded: &[u32], values: &[i64]) -> bool
 #[inline(always)]
 pub(crate) fn agrees<'c>(cells: &Cells, readers: &mut Row<Reader<'c>>, seat: Seat) -> bool
     requires { seat.column < length (reader_at readers.old seat.reader).kinds }
-    ensures compares { (p : Program) (plan : Plan) (site : SiteId) (c : LeanState) → IsSeat p plan site seat → c.cells ≡ cells.now →
+    ensures compares { (p : Program) (plan : Plan) (site : SiteId) (c : LeanState) → IsSeat p plan site seat → SameWhereChecked p plan c.cells cells.now →
         ShowsQueues p plan readers.old c.queues c.loads →
         Compares p plan c site result readers.new }
     ensures kinds { SameKinds readers.old readers.new }

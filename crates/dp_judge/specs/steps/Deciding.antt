@@ -1,11 +1,10 @@
 -- What one iteration's judging comes to, and what is done then.
-use Rattle.std.specs.Prelude.{◌≡◌, ◌-◌, ◌++◌, ℕ, Bool, true, false, List, [], ◌∷◌, ℤ, Some}
-use Rattle.dp_base.specs.declared.CellId.{CellId}
+use Rattle.std.specs.Prelude.{◌≡◌, ◌-◌, ℕ, Bool, true, false, List, ℤ, Some}
+use Rattle.dp_base.specs.declared.StoreOf.{StoreOf}
 use Rattle.dp_tree.specs.declared.Program.{Program}
 use Rattle.dp_tree.specs.Eval.{Load}
 use Rattle.dp_plan.specs.declared.Plan.{Plan}
 use Rattle.dp_lean_judge.specs.Locals.{clear_cells}
-use Rattle.dp_judge.specs.declared.verdict.Verdict.TheVariants as verdict
 use Rattle.dp_lean.specs.Queues.{Told}
 use Rattle.dp_lean_code.specs.declared.LeanOp.{LeanOp}
 use Rattle.dp_columns.specs.Left.{Left}
@@ -13,15 +12,16 @@ use Rattle.dp_lean_judge.specs.JudgeState.{JudgeEnd, judge_begin}
 unfoldable use Rattle.dp_lean_judge.specs.JudgeFlat.{judge_flat}
 use Rattle.dp_lean_judge.specs.Shown.{ShowsQueues}
 use Rattle.dp_lean_judge.specs.Ready.{JudgeIsReady}
-use Rattle.dp_lean_judge.specs.Judged.{JudgingEnds}
+use Rattle.dp_lean_judge.specs.Judged.{JudgingEnds, SameWhereChecked}
 use Rattle.dp_lean_judge.specs.Collecting.{undone}
 use Rattle.dp_lean_judge.specs.declared.collected.Collected.{Collected}
 use Rattle.dp_lean_judge.specs.declared.judge.LeanJudged.{LeanJudged}
 use Rattle.dp_lean_judge.specs.declared.ready.Ready.{Ready}
+use Rattle.dp_lean_region.specs.declared.line.JudgeTables.{JudgeTables}
 use Rattle.dp_lean_machine.specs.declared.batch.BatchStatus.{BatchStatus}
 use Rattle.dp_lean_machine.specs.declared.batch.BatchStatus.TheVariants as status
 use Rattle.dp_judge.specs.Decided.{cleans}
-use Rattle.dp_judge.specs.steps.Adding.{IsUngiven}
+use Rattle.dp_judge.specs.steps.Adding.{AddedTo, GrownTo}
 use Rattle.dp_judge.specs.declared.judging.Bench.{Bench}
 use Rattle.dp_judge.specs.declared.judging.Decision.{Decision}
 use Rattle.dp_judge.specs.declared.judging.Decision.TheVariants.{Goes, Closes, Unclean, NoMemory}
@@ -34,35 +34,35 @@ abbrev pub going_by : Bool → Decision
 going_by true = Closes
 going_by false = Goes
 
--- The answer is the end of each code that is ready so, from this memory and with what these readers have left; or memory was wanting.
-abbrev pub SeesAs : Ready → List ℤ → List Left → LeanJudged → List ℤ → List Left → Collected → Type 0
-SeesAs ready cells readers answer cells_new readers_new collected =
-    (p : Program) (plan : Plan) (code : List LeanOp) (queues : ℕ → List Told) (loads : ℕ → List (List Load)) →
-    JudgeIsReady p plan code ready → ShowsQueues p plan readers queues loads →
-    (n : ℕ) (end : JudgeEnd) → judge_flat p plan code n (judge_begin cells queues loads) ≡ Some end →
-    (tells : Bool) × JudgingEnds p plan tells end answer cells_new readers_new collected
+-- The answer is the end of each code that is ready so, from this memory, or any where no site is checked, and with what these readers
+-- have left; what is collected comes behind what was. Or memory was wanting.
+abbrev pub SeesAs : Ready → List ℤ → List Left → Collected → LeanJudged → List ℤ → List Left → Collected → Type 0
+SeesAs ready cells readers start answer cells_new readers_new collected =
+    (p : Program) (plan : Plan) (code : List LeanOp) (queues : ℕ → List Told) (loads : ℕ → List (List Load)) (kept : List ℤ) →
+    JudgeIsReady p plan code ready → SameWhereChecked p plan kept cells → ShowsQueues p plan readers queues loads →
+    (n : ℕ) (end : JudgeEnd) → judge_flat p plan code n (judge_begin kept queues loads) ≡ Some end →
+    JudgingEnds p plan start end answer cells_new readers_new collected
 
--- What was collected is told as a clean iteration, which leaves this of the fuel, and the body locals read 0.
-pub record Committed (locals : List CellId) (after : ℕ) (closing : Bool) (old new : Bench) (told_old told_new : ToldBatch) : Type 0 where
+-- What was collected behind what was told is told as a clean iteration, which leaves this of the fuel. The body locals read 0, where
+-- something is compared.
+pub record Committed (tables : JudgeTables) (after : ℕ) (closing : Bool) (old new : Bench) (t u : ToldBatch) (grown : GrownTo t u)
+    (told_new : ToldBatch) : Type 0 where
   pub left : new.left ≡ after
-  pub cells : new.cells ≡ clear_cells locals old.cells
-  pub ungiven : IsUngiven told_new
-  pub told : cleans told_new
-      ≡ cleans told_old
-      ++ verdict.Clean (record { stores = old.collected.stores; prints = old.collected.prints; steps = old.left - after; closing = closing }) ∷ []
+  pub cells : tables.ready.now.compares ≡ true → new.cells ≡ clear_cells tables.locals.now old.cells
+  pub added : AddedTo t u grown (old.left - after) closing told_new
 
 -- Nothing more is told, and the memory is what it was before the iteration.
-pub record Undone (old new : Bench) (told_old told_new : ToldBatch) : Type 0 where
+pub record Undone (before : List StoreOf) (old new : Bench) (told_old told_new : ToldBatch) : Type 0 where
   pub left : new.left ≡ old.left
-  pub cells : new.cells ≡ undone old.collected.before old.cells
+  pub cells : new.cells ≡ undone before old.cells
   pub told : cleans told_new ≡ cleans told_old
 
 -- an iteration that is clean is committed, or memory is wanting for that
-abbrev pub CommitsSo : List CellId → ℕ → Bool → Bench → Bench → ToldBatch → ToldBatch → Decision → Type 0
-CommitsSo locals after closing old new told_old told_new Goes = (closing ≡ false) × Committed locals after closing old new told_old told_new
-CommitsSo locals after closing old new told_old told_new Closes = (closing ≡ true) × Committed locals after closing old new told_old told_new
-CommitsSo locals after closing old new told_old told_new NoMemory = Undone old new told_old told_new
-CommitsSo locals after closing old new told_old told_new Unclean = ⊥
+abbrev pub CommitsSo : JudgeTables → ℕ → Bool → Bench → Bench → (t u : ToldBatch) → GrownTo t u → ToldBatch → Decision → Type 0
+CommitsSo tables after closing old new t u grown told_new Goes = (closing ≡ false) × Committed tables after closing old new t u grown told_new
+CommitsSo tables after closing old new t u grown told_new Closes = (closing ≡ true) × Committed tables after closing old new t u grown told_new
+CommitsSo tables after closing old new t u grown told_new NoMemory = Undone u.collected.before old new t told_new
+CommitsSo tables after closing old new t u grown told_new Unclean = ⊥
 
 -- what stands behind all iterations of a batch that came to their end
 abbrev pub end_of_status : BatchStatus → ToldEnd

@@ -80,7 +80,7 @@ abbrev store : ℕ → ℕ → StoreOf
 store c z = record { cell = cell c; value = pos z }
 
 abbrev gathered : Gathered
-gathered = record { stores = store 3 0 ∷ store 3 2 ∷ store 1 3 ∷ store 0 2 ∷ store 2 2 ∷ []; stages = 1 ∷ 1 ∷ 2 ∷ 2 ∷ 1 ∷ []; prints = [] }
+gathered = record { stores = store 3 0 ∷ store 3 2 ∷ store 1 3 ∷ store 0 2 ∷ store 2 2 ∷ []; prints = [] }
 
 -- ten ops, and what is told of the next iteration stays
 holds : ran code base (queues (Did 3 (pos 2) ∷ [])) (loads 2) 10 ≡ Some (Some (pos 2 ∷ pos 3 ∷ pos 2 ∷ pos 2 ∷ [], gathered, false, Did 2 (pos 9) ∷ []))
@@ -117,34 +117,35 @@ by_blocks = refl
 
 -- at a 0 of the region's condition it is left
 closed : ran code base (λ y. if y == 2 then Did 0 (pos 0) ∷ [] else []) (λ y. []) 2 ≡ Some
-    (Some (base, record { stores = []; stages = []; prints = [] }, true, []))
+    (Some (base, record { stores = []; prints = [] }, true, []))
 unfolding tree_opened expr_code stmt_code judge_flat
 closed = refl
 
 -- .. and at an end before the last op; a print is collected
 left : ran (Plain (op.ConsumePrint (site 6)) ∷ Plain (op.ConsumeBranch (site 4) 3) ∷ Plain op.End ∷ Plain op.End ∷ []) base
     (λ y. if y == 6 then Did 0 (pos 8) ∷ [] else if y == 4 then Did 0 (pos 5) ∷ [] else []) (λ y. []) 3
-    ≡ Some (Some (base, record { stores = []; stages = []; prints = pos 8 ∷ [] }, true, []))
+    ≡ Some (Some (base, record { stores = []; prints = pos 8 ∷ [] }, true, []))
 unfolding tree_opened judge_flat
 left = refl
 
 -- behind the checked site a jump leads to the loop's condition
 checked_entry : entry_of stale_step step_plan code 4 (Plain (op.Consume (site 5) (cell 3) 1))
-    ≡ Scalar (record { stage = 1; reader = 0; column = 3; checked = true; opens = false }) (cell 3) 2
+    ≡ Scalar (record { reader = 0; column = 3; checked = true; opens = false; compares = true }) (cell 3) 2
 unfolding tree_opened expr_code stmt_code landing
 checked_entry = refl
 
 condition_entry : entry_of stale_step step_plan code 1 (Plain (op.ConsumeBranch (site 2) 8))
-    ≡ Choice (record { stage = 1; reader = 0; column = 0; checked = false; opens = true }) 8 1
+    ≡ Choice (record { reader = 0; column = 0; checked = false; opens = true; compares = true }) 8 1
 unfolding tree_opened expr_code stmt_code landing
 condition_entry = refl
 
-block_entry : entry_of stale_step step_plan blocks 6 (Meet (site 6)) ≡ Block (record { stage = 2; reader = 1; column = 4; checked = false; opens = false }) 6
+block_entry : entry_of stale_step step_plan blocks 6 (Meet (site 6))
+    ≡ Block (record { reader = 1; column = 4; checked = false; opens = false; compares = true }) 6
 unfolding tree_opened expr_code stmt_code landing
 block_entry = refl
 
 array_entry : entry_of stale_step step_plan code 7 (Plain (op.Consume (site 6) (cell 1) 3)) ≡ Element
-    (record { stage = 2; reader = 1; column = 4; checked = false; opens = false }) (cell 1) 3 7
+    (record { reader = 1; column = 4; checked = false; opens = false; compares = true }) (cell 1) 3 7
 unfolding tree_opened expr_code stmt_code landing
 array_entry = refl
 

@@ -8,7 +8,8 @@ pub returns : goal.returns
 returns c =
     let t = c.args.self.now in
     ap (λ (vs : List Verdict). vs ++ end_verdicts t.end)
-    (pass_cleans t.parts t.stores t.prints t.given t.stores_given t.prints_given c.place_behind-given.result c.place_behind-stores_given.result
+    (pass_cleans t.parts t.collected.stores t.collected.prints t.given t.stores_given t.prints_given c.place_behind-given.result
+    c.place_behind-stores_given.result
     c.place_behind-prints_given.result c.args.part
     c.requires
     (c.place_behind-given.ensures ∙ ap (λ (n : ℕ). min (t.given + 1) n) c.len-parts.ensures ∙ one_on t.parts t.given c.args.part c.requires)

@@ -9,5 +9,10 @@ pub loop-store-preserved : goal.loop-store-preserved
 loop-store-preserved c =
     let store = c.in-Some.store in
     let fits : SFits w64 c.in-Some.store.value = search rules in
-    ap (undone c.pop.new.self) (c.set.ensures ∙ ap (slice_set c.loop-store.cells store.cell.0) (to_z-of_z w64 store.value fits))
-    ∙ sym (undone_last c.pop.new.self store c.loop-store.cells) ∙ ap (λ notes. undone notes c.loop-store.cells) (sym c.in-Some.ensures) ∙ c.loop-store.invariant
+    record {
+      cells = ap (undone c.pop.new.self) (c.set.ensures ∙ ap (slice_set c.loop-store.cells store.cell.0) (to_z-of_z w64 store.value fits))
+          ∙ sym (undone_last c.pop.new.self store c.loop-store.cells) ∙ ap (λ notes. undone notes c.loop-store.cells) (sym c.in-Some.ensures)
+          ∙ c.loop-store.invariant.cells;
+      stores = c.loop-store.invariant.stores;
+      prints = c.loop-store.invariant.prints;
+    }
