@@ -67,7 +67,7 @@ fn put_loads(own: &mut Columns, place: usize, entries: &[Entry]) -> Result<(), N
 
 /// The stage's blocks don't tell their stores into the cell.
 #[inline(always)]
-fn is_hidden(hidden: &[bool], cell: u32) -> bool
+pub(crate) fn is_hidden(hidden: &[bool], cell: u32) -> bool
     ensures { result ≡ get_or hidden.now cell false }
 {
     match hidden.get(cell as usize) {

@@ -18,7 +18,8 @@ returns c =
     } in
     let tables = subst (λ (ops : List LeanOp). AreTurnTables lent.program.now lent.plan.now stage.of ops c.args.stage.now.turn)
     (sym c.as_slice.ensures) stage.tables in
-    let own = c.kinds_at.ensures.own ∙ sym stage.own in let read = c.kinds_at.ensures.read ∙ sym stage.read in record {
+    let own = c.kinds_at.ensures.own ∙ sym stage.own in let read = c.kinds_at.ensures.read ∙ sym stage.read in
+    let same = c.hidden.ensures.same in record {
       program = refl;
       under = refl;
       words = refl;
@@ -26,7 +27,7 @@ returns c =
       own = c.kinds_at.ensures.own;
       read = c.kinds_at.ensures.read;
       first = c.requires.first;
-      ready = c.ready.ensures f stage.of (record { tables = tables; own = own; read = read }) refl;
-      hidden = c.hidden.ensures.hides f stage.of (record { tables = tables; own = own; read = read }) refl;
+      ready = c.ready.ensures f stage.of (record { tables = tables; own = own; read = read; hidden = same }) refl;
+      hidden = c.hidden.ensures.hides f stage.of (record { tables = tables; own = own; read = read; hidden = same }) refl;
       body = refl;
     }

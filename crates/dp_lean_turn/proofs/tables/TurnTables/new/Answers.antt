@@ -1,7 +1,8 @@
-use Rattle.std.proofs.Common.{◌∙◌, sym, ap, subst, ℕ}
+use Rattle.std.proofs.Common.{◌∙◌, sym, ap, subst, ℕ, List, Bool}
 use Rattle.dp_engine.specs.Forms.{forms_of}
 use Rattle.dp_lean_code.specs.Known.{paying_marks}
 use Rattle.dp_lean_turn.specs.Notes.{AreNotes}
+use Rattle.dp_lean_turn.specs.Deeds.{AreQuick}
 use Rattle.dp_lean_turn.specs.Made.{KnowFinishes}
 use Rattle.dp_lean_turn.proofs.LeanOrder.{blocks_own, values_ordered}
 use Rattle.dp_lean_turn.proofs.tables.TurnTables.new.Goals as goal
@@ -23,6 +24,7 @@ returns c =
     record {
       ops = c.in_ok-ops.ensures;
       steps = c.in_ok-steps.ensures.right p plan c.args.kinds right;
+      quick = subst (λ (hs : List Bool). AreQuick hs c.in_ok-steps.steps) c.as_slice-4.ensures c.in_ok-steps.ensures.quick;
       finishes = c.in_ok-steps.ensures.finishes p plan c.args.kinds right finishes;
       hidden = λ at site here cell.
           c.in_ok-hidden.ensures plan cell c.requires.known
