@@ -58,11 +58,12 @@ int main() {
 
 def sources(most):
     """The sources with what is forced."""
-    crew, choosing, texts = ("crates/%s.rt" % it for it in ("dp_crew/src/crew", "dp_crew/src/choosing", "dp_drive/src/texts"))
+    crew, awaited, choosing, texts = ("crates/%s.rt" % it for it in ("dp_crew/src/crew", "dp_crew/src/awaited", "dp_crew/src/choosing", "dp_drive/src/texts"))
     return caps.capped(most) | {
-        crew: replaced(crew, ("Choice::new(!work.bells.is_empty())", "Choice::new(work.size.lane)"),
-                       ("const ALONE: u32 = 256;", "const ALONE: u32 = 1_000_000_000;"),
-                       ("const PATIENCE: u64 = 200_000;", "const PATIENCE: u64 = u64::MAX;")),
+        crew: replaced(crew, ("Choice::new(!work.bells.is_empty(), work.has_workers())", "Choice::new(work.size.lane)")),
+        awaited: replaced(awaited, ("const ALONE: u32 = 256;", "const ALONE: u32 = 1_000_000_000;"),
+                          ("const PATIENCE: u64 = 200_000;", "const PATIENCE: u64 = u64::MAX;"),
+                          ("const IN_ONE_STAGE: u64 = 500_000;", "const IN_ONE_STAGE: u64 = u64::MAX;")),
         choosing: (TOP / "checks/choices.template").read_text(),
         texts: replaced(texts, ("PlanSource::Named(_) => false", "PlanSource::Named(_) => true")),
     }

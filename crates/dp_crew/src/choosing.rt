@@ -1,18 +1,8 @@
 //! Whether a region's iterations are followed by its run plan, or go by the plan itself: by the clock.
 
 use crate::pace::{Pace, Stopwatch};
+use crate::timed::Timed;
 use crate::trial::{Shown, Trial};
-
-/// So many iterations are followed before the plan is tried, or fewer, once they have taken so many nanoseconds.
-const FOLLOWED: u32 = 4_096;
-
-const LONG: u64 = 5_000_000;
-
-/// The clock is looked at behind each so many of them, and behind the first ones each time that they are twice as many. The first
-/// so many nanoseconds of an epoch aren't timed, unless it has taken long by then.
-const LOOK: u32 = 32;
-
-const SETTLING: u64 = 500_000;
 
 /// What was quicker goes on for so many verdicts, and for twice as many each time that it is again, up to a limit.
 const SPAN: u32 = 65_536;
@@ -49,21 +39,18 @@ pub(crate) enum Way {
 /// plan come, and so on. Where the plan's units may have threads, following is timed at first, and the plan is tried behind it.
 #[derive(Drop)]
 pub(crate) struct Choice {
-    /// Whether the plan may be quicker: its units have threads.
+    /// Whether the plan may be quicker: its units have threads. Whether one of its stages has workers.
     may_try: bool,
-    /// The plan is tried behind so many iterations more, or behind so many nanoseconds of following.
-    to_follow: u32,
-    patience: u64,
+    has_workers: bool,
     /// So many verdicts of the plan come before iterations are followed.
     to_take: u32,
     /// So many come behind the next epoch that is left early.
     next_take: u32,
-    /// How quick following was since the last trial.
-    alone: Pace,
-    /// How many iterations of the epoch under way were followed, whether they are timed, and whether they were enough.
-    here: u32,
-    settled: bool,
+    /// What was followed since the last trial, and whether that was enough.
+    timed: Timed,
     enough: bool,
+    /// How quick that was, by which the plan is judged.
+    alone: Pace,
     /// The plan is tried, or was found quicker, and what is timed of that, or of the epoch under way.
     trial: Option<Trial>,
     quicker: bool,
@@ -75,17 +62,15 @@ pub(crate) struct Choice {
 
 impl Choice {
     /// Of a region of which nothing is known.
-    pub(crate) fn new(may_try: bool) -> Choice {
+    pub(crate) fn new(may_try: bool, has_workers: bool) -> Choice {
         Choice {
             may_try,
-            to_follow: FOLLOWED,
-            patience: LONG,
+            has_workers,
             to_take: 0,
             next_take: 1,
-            alone: Pace::unknown(),
-            here: 0,
-            settled: false,
+            timed: Timed::nothing(),
             enough: false,
+            alone: Pace::unknown(),
             trial: None,
             quicker: false,
             watch: Stopwatch::start(0, 0),
@@ -108,52 +93,36 @@ impl Choice {
     }
 
     /// An epoch begins now, in this way of following or by the region's own plan, where so many steps were made. One of the
-    /// run plan is timed.
+    /// run plan is timed: anew, where what was quicker went on for long enough.
     pub(crate) fn begin(&mut self, way: Option<Way>, now: u64, steps: u64) {
         if let Some(Way::OneStage) = way {
             if self.quicker {
-                self.begin_anew();
+                self.quicker = false;
+                self.timed = Timed::nothing();
             }
-            self.here = 0;
-            self.settled = false;
             self.enough = false;
-            self.watch = Stopwatch::start(now, steps);
+            self.timed.begin(now, steps);
         }
-    }
-
-    /// What was quicker went on for long enough: it is tried again behind some iterations.
-    fn begin_anew(&mut self) {
-        self.quicker = false;
-        self.alone = Pace::unknown();
-        self.to_follow = FOLLOWED;
-        self.patience = LONG;
     }
 
     /// One more iteration was followed.
     pub(crate) fn follow(&mut self) {
-        self.here = self.here.saturating_add(1);
+        self.timed.follow();
     }
 
     /// Whether the clock is to be looked at.
     pub(crate) fn looks(&self) -> bool {
-        self.may_try && (self.here % LOOK == 0 || self.here.is_power_of_two())
+        self.may_try && self.timed.looks()
     }
 
-    /// What is followed is timed once it has settled. Where it has taken long by now, the plan is tried at once.
+    /// Looks whether the plan is to be tried.
     pub(crate) fn look(&mut self, now: u64, steps: u64) {
-        let passed = self.watch.passed(now);
-        if !self.settled && passed >= SETTLING {
-            self.settled = true;
-            if passed < LONG {
-                self.watch = Stopwatch::start(now, steps);
-            }
-        }
+        self.timed.look(now, steps, self.has_workers);
         self.enough = self.is_enough(now, steps);
     }
 
     fn is_enough(&self, now: u64, steps: u64) -> bool {
-        let timed = self.alone.and(self.watch.pace(now, steps));
-        self.may_try && (self.here >= self.to_follow || timed.nanoseconds() >= self.patience)
+        self.may_try && self.timed.is_enough(now, steps)
     }
 
     /// Whether the next iteration is followed.
@@ -165,9 +134,10 @@ impl Choice {
     pub(crate) fn end(&mut self, way: Option<Way>, now: u64, steps: u64) {
         if let Some(Way::OneStage) = way {
             let enough = self.is_enough(now, steps);
-            self.alone = self.alone.and(self.watch.pace(now, steps));
+            self.timed.end(now, steps);
             if enough {
-                self.trial = Some(Trial::begin(now, steps));
+                self.alone = self.timed.pace();
+                self.trial = Some(Trial::begin(now, steps, self.timed.percent()));
                 self.next_take = 1;
                 self.to_take = self.span;
             } else {
@@ -179,8 +149,7 @@ impl Choice {
     /// An epoch of the run plan ended before it was long enough.
     fn end_early(&mut self) {
         self.to_take = 1;
-        self.to_follow = self.to_follow.saturating_sub(self.here);
-        if self.here < FEW {
+        if self.timed.here() < FEW {
             self.to_take = self.next_take;
             self.next_take = self.next_take.saturating_mul(2).min(LONGEST);
         } else {
@@ -239,10 +208,8 @@ impl Choice {
     fn fail(&mut self, tried: u64) {
         self.trial = None;
         self.quicker = false;
-        self.alone = Pace::unknown();
+        self.timed = Timed::resting(tried.saturating_mul(self.rest));
         self.to_take = 1;
-        self.to_follow = u32::MAX;
-        self.patience = tried.saturating_mul(self.rest).max(LONG);
         self.span = SPAN;
         self.rest = self.rest.saturating_mul(2);
     }

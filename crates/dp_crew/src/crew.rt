@@ -1,6 +1,7 @@
 //! The threads that a region's units are handed to.
 ghost use Rattle.std.specs.Prelude.{◌≡◌, true};
 
+use crate::awaited::Awaited;
 use crate::choosing::{Choice, Way};
 use crate::clock::nanoseconds;
 use crate::counting::Counts;
@@ -16,14 +17,6 @@ use std::sync::Wait;
 use std::thread::Scope;
 use std::time::Clock;
 
-/// So many verdicts of an epoch the caller awaits alone: an epoch that breaks early isn't worth waking threads for.
-const ALONE: u32 = 256;
-
-/// .. and for so many nanoseconds at most, by a clock that is looked at behind the first few, and each time that they are twice as many.
-const PATIENCE: u64 = 200_000;
-
-const FEW: u32 = 4;
-
 /// A tray and a bell for each thread that a region may have, and the scope of these threads, which are started when units are
 /// handed over for the first time.
 pub(crate) struct Crew<'s, 'u, E, R, G> {
@@ -36,9 +29,8 @@ pub(crate) struct Crew<'s, 'u, E, R, G> {
     /// How many of the first trays have no thread, and whether none can be started any more.
     alone: usize,
     refused: bool,
-    /// How many verdicts of the epoch were awaited, and since when.
-    awaited: u32,
-    since: u64,
+    /// How many verdicts of the epoch were awaited.
+    awaited: Awaited,
     /// How many steps were made, as far as was told.
     steps: u64,
     /// Whether the region is run by a run plan, where it has one.
@@ -58,7 +50,6 @@ impl<'s, 'u, E, R, G> Drop for Crew<'s, 'u, E, R, G> {
             alone: _,
             refused: _,
             awaited: _,
-            since: _,
             steps: _,
             choice: _,
             counts: _,
@@ -84,10 +75,9 @@ impl<'s, 'u, E, R: Wait + Clock + Sync, G: Gate> Crew<'s, 'u, E, R, G> {
             bells: work.bells,
             alone: trays.len(),
             refused: false,
-            awaited: 0,
-            since: 0,
+            awaited: Awaited::none(),
             steps: 0,
-            choice: Choice::new(!work.bells.is_empty()),
+            choice: Choice::new(!work.bells.is_empty(), work.has_workers()),
             counts: Counts::new(tally, nanoseconds(rt)),
         }
     }
@@ -109,8 +99,7 @@ impl<'s, 'u, E, R: Wait + Clock + Sync, G: Gate> Crew<'s, 'u, E, R, G> {
         self.steps = steps;
         self.counts.begin(way, now);
         self.choice.begin(way, now, steps);
-        self.awaited = if self.choice.is_trying() { ALONE } else { 0 };
-        self.since = now;
+        self.awaited = Awaited::begin(way, self.choice.is_trying(), now);
     }
 
     /// One more iteration was followed, and so many steps are made by now. Whether the next one is.
@@ -129,12 +118,6 @@ impl<'s, 'u, E, R: Wait + Clock + Sync, G: Gate> Crew<'s, 'u, E, R, G> {
             self.choice.look(nanoseconds(self.rt), self.steps);
         }
         self.choice.follows_on()
-    }
-
-    /// The caller has awaited verdicts alone for long.
-    fn is_patient_no_more(&self) -> bool {
-        let looks = self.awaited >= FEW && self.awaited < ALONE && self.awaited.is_power_of_two();
-        looks && nanoseconds(self.rt).saturating_sub(self.since) >= PATIENCE
     }
 
     /// One more iteration of the epoch is committed, and so many steps are made by now. Whether the epoch is left, if it may be.
@@ -159,18 +142,13 @@ impl<'s, 'u, E, R: Wait + Clock + Sync, G: Gate> Crew<'s, 'u, E, R, G> {
     pub(crate) fn await_one(&mut self, verdicts: &mut LaneVerdicts<'u>)
         ensures { verdicts.new ≡ verdicts.old }
     {
-        if self.is_patient_no_more() {
-            self.awaited = ALONE;
-        }
-        if self.awaited == ALONE {
+        if self.awaited.hands_over(self.rt) {
             verdicts.wait_by(Pause::at(self.bells, self.trays.len()));
             self.hand_over(verdicts);
         }
-        self.awaited = self.awaited.saturating_add(1);
     }
 
-    /// Hands the units that have a thread over to it. The others stay with the verdicts; so does the judging of a single stage,
-    /// which takes no longer than committing what it tells.
+    /// Hands the units that have a thread over to it. The others stay with the verdicts, and so does the one that judges.
     fn hand_over(&mut self, verdicts: &mut LaneVerdicts<'u>)
         ensures { verdicts.new ≡ verdicts.old }
     {
@@ -226,7 +204,7 @@ impl<'s, 'u, E, R: Wait + Clock + Sync, G: Gate> Crew<'s, 'u, E, R, G> {
         let now = nanoseconds(self.rt);
         self.counts.end(now);
         self.choice.end(way, now, self.steps);
-        if self.awaited > ALONE {
+        if self.awaited.is_handed_over() {
             setter.set(self.rt);
             ring_all(self.bells);
         }

@@ -1,6 +1,7 @@
 //! A region from start to end: its epochs, one after the other, in threads, and its prints written.
 #![tactic(auto)]
 
+mod awaited;
 mod begun;
 mod choosing;
 mod clock;
@@ -14,10 +15,12 @@ mod recover;
 mod region;
 mod settling;
 mod threads;
+mod timed;
 mod together;
 mod trays;
 mod trial;
 mod waiting;
+mod weight;
 mod work;
 
 pub use region::run_region;

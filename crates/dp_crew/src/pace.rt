@@ -34,6 +34,15 @@ impl Pace {
                 .saturating_mul(percent)
     }
 
+    /// This or the other one, whichever is quicker; this where the other is unknown.
+    pub(crate) fn or_quicker(self, other: Pace) -> Pace {
+        if other.takes_less(100, self) {
+            other
+        } else {
+            self
+        }
+    }
+
     /// How long it took.
     pub(crate) fn nanoseconds(self) -> u64 {
         self.nanoseconds
@@ -56,9 +65,14 @@ impl Stopwatch {
     /// What was run until now, where so many steps were made.
     pub(crate) fn pace(self, now: u64, steps: u64) -> Pace {
         Pace {
-            steps: steps.saturating_sub(self.steps),
+            steps: self.made(steps),
             nanoseconds: now.saturating_sub(self.since),
         }
+    }
+
+    /// How many steps were made since then, where so many are by now.
+    pub(crate) fn made(self, steps: u64) -> u64 {
+        steps.saturating_sub(self.steps)
     }
 
     /// For how long it has been running.

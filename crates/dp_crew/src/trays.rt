@@ -7,9 +7,6 @@ use std::alloc::Global;
 use std::mem;
 use std::sync::{Mutex, Wait};
 
-/// An epoch of one stage has two units: the stage's, and the one that judges.
-const ONE_STAGE: usize = 2;
-
 /// A unit lies here until its thread takes it out.
 pub(crate) type Tray<'u> = Mutex<Option<Unit<'u>>>;
 
@@ -32,15 +29,11 @@ pub(crate) fn lay<'u, R: Wait>(
     mem::replace(&mut *lies, unit)
 }
 
-/// How many of the last units that the verdicts poll are to be handed over. Of a single stage's that is the stage's, which comes
-/// last then.
+/// How many of the last units that the verdicts poll are to be handed over: all but the one that judges, which stands first then.
+/// Judging takes no longer than what a stage does, and the caller has little else to do.
 pub(crate) fn to_hand(verdicts: &mut LaneVerdicts<'_>) -> usize
     ensures { verdicts.new ≡ verdicts.old }
 {
-    let units = verdicts.units();
-    if units == ONE_STAGE {
-        verdicts.turn_units();
-        return 1;
-    }
-    units
+    verdicts.turn_units();
+    verdicts.units().saturating_sub(1)
 }

@@ -9,16 +9,17 @@ const SOME: u32 = 32;
 
 const MANY: u32 = 1_024;
 
-/// The plan is quicker where in two windows a step took so many parts of a hundred of a followed one's time.
-const QUICKER: u64 = 90;
-
-/// It isn't where no two windows show that within so many verdicts, or so many windows and nanoseconds. The first windows are slow
-/// in any case: threads are started, and the pipeline is filled.
+/// The plan isn't quicker where no two windows show it within so many verdicts, or so many windows and nanoseconds. The first windows
+/// are slow in any case: threads are started, and the pipeline is filled.
 const MOST: u32 = 3_072;
 
 const WINDOWS: u32 = 4;
 
 const LONGEST: u64 = 16_000_000;
+
+/// Nor is it where, behind so many windows, a followed step took less than so many parts of a hundred of the time that one took in
+/// the last two.
+const CLEARLY: u64 = 80;
 
 /// Nor is it where, behind many verdicts or so many nanoseconds, a followed step took less than so many parts of a hundred of the
 /// time that one took in a window.
@@ -39,6 +40,8 @@ pub(crate) enum Shown {
 /// How many windows are over, how many verdicts of a trial came, and how many in the window under way.
 #[derive(Clone, Copy)]
 pub(crate) struct Trial {
+    /// The plan is quicker where in two windows a step took so many parts of a hundred of a followed one's time.
+    percent: u64,
     windows: u32,
     tried: u32,
     within: u32,
@@ -50,9 +53,10 @@ pub(crate) struct Trial {
 
 impl Trial {
     /// It begins now, where so many steps were made.
-    pub(crate) fn begin(now: u64, steps: u64) -> Trial {
+    pub(crate) fn begin(now: u64, steps: u64, percent: u64) -> Trial {
         let watch = Stopwatch::start(now, steps);
         Trial {
+            percent,
             windows: 0,
             tried: 0,
             within: 0,
@@ -90,13 +94,19 @@ impl Trial {
         self.last = pace;
         if first {
             Shown::Nothing
-        } else if both.takes_less(QUICKER, alone) {
+        } else if both.takes_less(self.percent, alone) {
             Shown::Quicker
-        } else if self.is_over(now) || (self.is_started(now) && alone.takes_less(HOPELESS, pace)) {
+        } else if self.is_over(now) || self.is_slower(now, pace, both, alone) {
             Shown::Slower
         } else {
             Shown::Nothing
         }
+    }
+
+    /// Whether following was quicker than the last window, or the last two.
+    fn is_slower(&self, now: u64, last: Pace, both: Pace, alone: Pace) -> bool {
+        (self.windows >= WINDOWS && alone.takes_less(CLEARLY, both))
+            || (self.is_started(now) && alone.takes_less(HOPELESS, last))
     }
 
     fn is_started(&self, now: u64) -> bool {

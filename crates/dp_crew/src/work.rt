@@ -6,6 +6,7 @@ ghost use Rattle.dp_run_plan.specs.RunPlan.{hides_nothing};
 
 use crate::choosing::Way;
 use dp_epoch::CrewSize;
+use dp_plan::{Plan, StageKind};
 use dp_prepared::PreparedRegion;
 use dp_run_plan::RunRegion;
 use dp_waiting::Bell;
@@ -52,6 +53,15 @@ impl<'u, 'p> Work<'u, 'p> {
         }
     }
 
+    /// Whether a stage of the plan that is tried has several workers.
+    pub(crate) fn has_workers(self) -> bool {
+        let tried = match self.region.whole() {
+            Some(whole) => whole.plan(),
+            None => self.region.plan(),
+        };
+        self.size.workers > 1 && has_replicated(tried)
+    }
+
     /// Whether an epoch of the region may be left anywhere.
     pub(crate) fn may_leave(self) -> bool
         ensures { result ≡ true → hides_nothing self.entry.region.now.program self.entry.region.now.plan ≡ true }
@@ -61,4 +71,15 @@ impl<'u, 'p> Work<'u, 'p> {
             None => false,
         }
     }
+}
+
+/// Whether one of the plan's stages is replicated.
+fn has_replicated(plan: &Plan) -> bool {
+    for kind in plan.stages.as_slice() {
+        match kind {
+            StageKind::Par => return true,
+            StageKind::Seq => {}
+        }
+    }
+    false
 }

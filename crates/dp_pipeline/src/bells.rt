@@ -1,5 +1,5 @@
 //! What wakes the threads of an epoch's units.
-ghost use Rattle.std.specs.Prelude.{◌≡◌, ◌+◌, suc, length, IfOk, OnOk};
+ghost use Rattle.std.specs.Prelude.{◌≡◌, ◌+◌, length, IfOk, OnOk};
 ghost use Rattle.dp_pipeline.specs.UnitCount.{unit_count, unit_count_of};
 
 use crate::size::CrewSize;
@@ -9,14 +9,14 @@ use dp_prepared::PreparedRegion;
 use dp_waiting::Bell;
 use std::alloc::Global;
 
-/// A bell for the thread of each unit that an epoch of the region has, in the order of the units, and one for the caller behind
-/// them.
+/// A bell for the thread of each unit that an epoch of the region has, in the order of the units, but of the last: the caller judges,
+/// and has the bell behind them.
 pub fn bells_for(
     alloc: Global,
     region: &PreparedRegion<'_>,
     size: CrewSize,
 ) -> Result<Vec<Bell>, NoMemory>
-    ensures { IfOk result (λ bells. length bells.items ≡ suc (unit_count size.workers region.now.plan)) }
+    ensures { IfOk result (λ bells. length bells.items ≡ unit_count size.workers region.now.plan) }
 {
     bells_of(alloc, region.plan(), size, region.cap() as u32)
 }
@@ -28,13 +28,12 @@ fn bells_of(
     size: CrewSize,
     together: u32,
 ) -> Result<Vec<Bell>, NoMemory>
-    ensures { IfOk result (λ bells. length bells.items ≡ suc (unit_count size.workers plan.now)) }
+    ensures { IfOk result (λ bells. length bells.items ≡ unit_count size.workers plan.now) }
 {
     let mut bells = Vec::new(alloc);
     for kind in plan.stages.as_slice() {
         add_bells(&mut bells, *kind, size.workers, together)?;
     }
-    bells.push(Bell::new(false, together))?;
     bells.push(Bell::new(false, together))?;
     Ok(bells)
 }

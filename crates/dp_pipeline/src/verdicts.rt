@@ -117,11 +117,13 @@ impl<'u> LaneVerdicts<'u> {
         self.own.pop()
     }
 
-    /// The units that it polls stand the other way round.
+    /// The last of the units that it polls stands first.
     pub fn turn_units(&mut self)
         ensures { self.new ≡ self.old }
     {
-        self.own.as_mut_slice().reverse();
+        if !self.own.is_empty() {
+            self.own.as_mut_slice().rotate_right(1);
+        }
     }
 
     /// Gives the verdict on the next iteration. There is none after one that isn't Clean or that closes the region.
