@@ -1,5 +1,5 @@
 -- Columns where one of them changed.
-use Rattle.std.proofs.Common.{◌≡◌, refl, sym, ap, subst, ◌∙◌, ℕ, suc, ◌+◌, List, [], ◌∷◌, ◌++◌, ℤ, length, map, drop, get_or, slice_get, slice_set, replicate}
+use Rattle.std.proofs.Common.{◌≡◌, refl, sym, ap, subst, ◌∙◌, ℕ, suc, ◌+◌, List, [], ◌∷◌, ◌++◌, ℤ, length, map, drop, slice_get, slice_set, replicate}
 use Rattle.std.proofs.Common.{Some, All, arith}
 use Rattle.std.proofs.lemmas.List.{map-append, append_assoc}
 use Rattle.std.proofs.lemmas.List.Elements.{All-push}
@@ -11,11 +11,11 @@ use Rattle.dp_columns.specs.declared.ColumnKind.TheVariants.{Nothing, Value, Ele
 use Rattle.dp_columns.specs.declared.column.Column.{Column}
 use Rattle.dp_columns.specs.Paired.{Grouped, did, as_store, block_told}
 use Rattle.dp_columns.specs.Held.{told_by, told_of, begun_stores, IsEmpty, AreEmpty, no_events}
-use Rattle.dp_columns.specs.Columned.{Columned, nothing_kept, added_at, with_told, with_block_stores, block_ended, with_loads, loads_ended, SameTold}
+use Rattle.dp_columns.specs.Columned.{Columned, nothing_kept, added_at, with_told, with_block_stores, block_ended, with_loads, loads_ended, ToldStays}
 use Rattle.dp_columns.specs.Columned.{KeepsValues, KeepsElements, KeepsBlocks, value_cell}
 use Rattle.dp_columns.specs.Viewed.{kept_of}
 use Rattle.dp_columns.proofs.Behind.{block_behind, loads_behind}
-use Rattle.dp_columns.proofs.Places.{set_again, at_map, same_map, list_at, grown_map, set_map, rest_at}
+use Rattle.dp_columns.proofs.Places.{set_again, at_map, same_map, grown_map, set_map, rest_at}
 
 abbrev pub kind_of : Column → ColumnKind
 kind_of c = c.kind
@@ -123,7 +123,7 @@ module _ (columns : List Column) (loads : List Grouped) (place : ℕ) (c : Colum
         ∙ ap (λ (k : Columned). block_ended place (with_block_stores place (map as_store ls) k)) seen
 
     pub same_told : (bs : Grouped) → KeepsBlocks (slice_get old.kinds place) → bs.ended ≡ c.blocks.ended →
-        SameTold old (kept_of (slice_set columns place (record { kind = c.kind; values = c.values; elements = c.elements; blocks = bs })) loads)
+        ToldStays old (kept_of (slice_set columns place (record { kind = c.kind; values = c.values; elements = c.elements; blocks = bs })) loads)
     same_told bs is same =
         let d : Column = record { kind = c.kind; values = c.values; elements = c.elements; blocks = bs } in
         let kind = block_there is in
@@ -146,7 +146,7 @@ module _ (columns : List Column) (loads : List Grouped) (place : ℕ) (g : Group
         ∙ sym (loads_behind place ls (kept_of columns loads) g.unfinished (at_map (λ (e : Grouped). e.unfinished) loads place g at))
         ∙ ap (λ (k : Columned). loads_ended place (with_loads place ls k)) seen
 
-    pub same_loads : (d : Grouped) → d.ended ≡ g.ended → SameTold old (kept_of columns (slice_set loads place d))
+    pub same_loads : (d : Grouped) → d.ended ≡ g.ended → ToldStays old (kept_of columns (slice_set loads place d))
     same_loads d same = record {
       kinds = ap (λ (k : Columned). k.kinds) seen;
       told = ap (λ (k : Columned). k.told) seen;

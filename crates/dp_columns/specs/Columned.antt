@@ -71,7 +71,7 @@ loads_ended place k = record {
 }
 
 -- What was told stays as it is, whatever waits for the end of its event.
-pub record SameTold (old new : Columned) : Type 0 where
+pub record ToldStays (old new : Columned) : Type 0 where
   pub kinds : new.kinds ≡ old.kinds
   pub told : new.told ≡ old.told
   pub loads : new.loads ≡ old.loads

@@ -1,5 +1,5 @@
 //! Pairs, so many for each event.
-ghost use Rattle.std.specs.Prelude.{◌≡◌, ◌++◌, ◌∷◌, ◌<◌, ◌≤◌, ◌-◌, ◌+◌, [], List, length, map, take, drop, slice_get, Some, OnOk, OnErr};
+ghost use Rattle.std.specs.Prelude.{◌≡◌, ◌<◌, ◌≤◌, ◌-◌, ◌+◌, [], List, length, map, drop, slice_get, Some, OnOk, OnErr};
 ghost use Rattle.dp_tree.specs.Eval.{Load};
 ghost use Rattle.dp_columns.specs.Paired.{pair_load, with_pairs, event_ended};
 ghost use Rattle.dp_columns.specs.Ahead.{IsReached, FindsNext};

@@ -96,6 +96,7 @@ impl Pairs {
     }
 
     /// More, in this order. From the first one on that finds no room, they are left out.
+    #[inline(always)]
     pub(crate) fn put_all(&mut self, pairs: &[Pair]) -> Result<(), NoMemory>
         ensures ok { OnOk result (self.new ≡ self.old ++ map pair_load pairs.now) }
         ensures more { (more : List Load) × (self.new ≡ self.old ++ more) }

@@ -2,7 +2,7 @@
 ghost use Rattle.std.specs.Prelude.{◌≡◌, ◌<◌, length, map, slice_get, OnOk, OnErr};
 ghost use Rattle.dp_lean.specs.Queues.{Did};
 ghost use Rattle.dp_columns.specs.Paired.{pair_load, pair_store};
-ghost use Rattle.dp_columns.specs.Columned.{with_told, with_block_stores, block_ended, with_loads, loads_ended, SameTold};
+ghost use Rattle.dp_columns.specs.Columned.{with_told, with_block_stores, block_ended, with_loads, loads_ended, ToldStays};
 ghost use Rattle.dp_columns.specs.Columned.{KeepsValues, KeepsElements, KeepsBlocks, value_cell};
 
 use crate::{Columns, Pair};
@@ -40,7 +40,7 @@ impl Columns {
     pub fn put_block(&mut self, place: usize, stores: &[Pair]) -> Result<(), NoMemory>
         requires { KeepsBlocks (slice_get self.old.kinds place) }
         ensures ok { OnOk result (self.new ≡ block_ended place (with_block_stores place (map pair_store stores.now) self.old)) }
-        ensures err { OnErr result (SameTold self.old self.new) }
+        ensures err { OnErr result (ToldStays self.old self.new) }
     {
         if let Some(column) = self.told.get_mut(place) {
             return column.blocks.put_event(stores);
@@ -53,7 +53,7 @@ impl Columns {
     pub fn put_loads(&mut self, place: usize, loads: &[Pair]) -> Result<(), NoMemory>
         requires { place < length self.old.kinds }
         ensures ok { OnOk result (self.new ≡ loads_ended place (with_loads place (map pair_load loads.now) self.old)) }
-        ensures err { OnErr result (SameTold self.old self.new) }
+        ensures err { OnErr result (ToldStays self.old self.new) }
     {
         if let Some(events) = self.loads.get_mut(place) {
             return events.put_event(loads);

@@ -1,7 +1,5 @@
 //! A block of the stage begins, and is told.
-ghost use Rattle.std.specs.Prelude.{◌≡◌, map, slice_get, true, [], OnOk};
-ghost use Rattle.dp_columns.specs.Columned.{block_ended, KeepsBlocks, with_block_stores};
-ghost use Rattle.dp_columns.specs.Paired.{pair_store};
+ghost use Rattle.std.specs.Prelude.{◌≡◌, true, [], OnOk};
 ghost use Rattle.dp_lean_turn.specs.Notes.{kind_at};
 ghost use Rattle.dp_lean_turn.specs.Told.{Grown};
 ghost use Rattle.dp_lean_turn.specs.Adding.{IsBlockPut};
