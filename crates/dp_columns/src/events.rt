@@ -96,9 +96,9 @@ impl Events {
         Ok(())
     }
 
-    /// An event is ended, with these pairs at its end.
+    /// An event is ended, with these pairs behind those that are put.
     #[inline(always)]
-    pub(crate) fn put_event(&mut self, pairs: &[Pair]) -> Result<(), NoMemory>
+    pub(crate) fn put(&mut self, pairs: &[Pair]) -> Result<(), NoMemory>
         ensures ok { OnOk result (self.new ≡ event_ended (with_pairs (map pair_load pairs.now) self.old)) }
         ensures err { OnErr result (self.new.ended ≡ self.old.ended) }
     {

@@ -35,7 +35,7 @@ impl Columns {
         Err(NoMemory)
     }
 
-    /// A block is ended and told, with these stores at its end. It is out of line, so that what is frequent stays short.
+    /// A block is ended and told, with these stores behind those that wait. It is out of line, so that what is frequent stays short.
     #[inline(never)]
     pub fn put_block(&mut self, place: usize, stores: &[Pair]) -> Result<(), NoMemory>
         requires { KeepsBlocks (slice_get self.old.kinds place) }
@@ -43,12 +43,12 @@ impl Columns {
         ensures err { OnErr result (ToldStays self.old self.new) }
     {
         if let Some(column) = self.told.get_mut(place) {
-            return column.blocks.put_event(stores);
+            return column.blocks.put(stores);
         }
         Err(NoMemory)
     }
 
-    /// An event is ended and its loads are told, with these at its end.
+    /// An event is ended and its loads are told, with these behind those that wait.
     #[inline(never)]
     pub fn put_loads(&mut self, place: usize, loads: &[Pair]) -> Result<(), NoMemory>
         requires { place < length self.old.kinds }
@@ -56,7 +56,7 @@ impl Columns {
         ensures err { OnErr result (ToldStays self.old self.new) }
     {
         if let Some(events) = self.loads.get_mut(place) {
-            return events.put_event(loads);
+            return events.put(loads);
         }
         Err(NoMemory)
     }

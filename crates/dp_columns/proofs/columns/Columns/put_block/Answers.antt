@@ -11,12 +11,12 @@ pub returns-in-Some-clause-ok : goal.returns-in-Some-clause-ok
 returns-in-Some-clause-ok c =
     let at = c.in-Some.ensures.value in
     let stores = c.args.stores.now in
-    on_ok_weaker c.put_event.result (λ e. block_put c.self.inside.told c.self.inside.loads c.args.place c.in-Some.column.now at c.args.self.now c.self.view_is
-    c.put_event.new.self (map pair_load stores) c.requires e
-    ∙ ap (λ (ss : List Effect). block_ended c.args.place (with_block_stores c.args.place ss c.args.self.now)) (stores_of_pairs stores)) c.put_event.ensures.ok
+    on_ok_weaker c.put.result (λ e. block_put c.self.inside.told c.self.inside.loads c.args.place c.in-Some.column.now at c.args.self.now c.self.view_is
+    c.put.new.self (map pair_load stores) c.requires e
+    ∙ ap (λ (ss : List Effect). block_ended c.args.place (with_block_stores c.args.place ss c.args.self.now)) (stores_of_pairs stores)) c.put.ensures.ok
 
 pub returns-in-Some-clause-err : goal.returns-in-Some-clause-err
 returns-in-Some-clause-err c =
     let at = c.in-Some.ensures.value in
-    on_err_weaker c.put_event.result (same_told c.self.inside.told c.self.inside.loads c.args.place c.in-Some.column.now at c.args.self.now c.self.view_is
-    c.put_event.new.self c.requires) c.put_event.ensures.err
+    on_err_weaker c.put.result (same_told c.self.inside.told c.self.inside.loads c.args.place c.in-Some.column.now at c.args.self.now c.self.view_is
+    c.put.new.self c.requires) c.put.ensures.err

@@ -7,11 +7,11 @@ use Rattle.dp_columns.proofs.columns.Columns.put_loads.Goals as goal
 pub returns-in-Some-clause-ok : goal.returns-in-Some-clause-ok
 returns-in-Some-clause-ok c =
     let at = c.in-Some.ensures.value in
-    on_ok_weaker c.put_event.result (loads_put c.self.inside.told c.self.inside.loads c.args.place c.in-Some.events.now at c.args.self.now c.self.view_is
-    c.put_event.new.self (map pair_load c.args.loads.now)) c.put_event.ensures.ok
+    on_ok_weaker c.put.result (loads_put c.self.inside.told c.self.inside.loads c.args.place c.in-Some.events.now at c.args.self.now c.self.view_is
+    c.put.new.self (map pair_load c.args.loads.now)) c.put.ensures.ok
 
 pub returns-in-Some-clause-err : goal.returns-in-Some-clause-err
 returns-in-Some-clause-err c =
     let at = c.in-Some.ensures.value in
-    on_err_weaker c.put_event.result (same_loads c.self.inside.told c.self.inside.loads c.args.place c.in-Some.events.now at c.args.self.now c.self.view_is
-    c.put_event.new.self) c.put_event.ensures.err
+    on_err_weaker c.put.result (same_loads c.self.inside.told c.self.inside.loads c.args.place c.in-Some.events.now at c.args.self.now c.self.view_is
+    c.put.new.self) c.put.ensures.err
