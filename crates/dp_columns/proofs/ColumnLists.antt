@@ -1,5 +1,5 @@
 -- Columns where one of them changed.
-use Rattle.std.proofs.Common.{◌≡◌, refl, sym, ap, subst, ◌∙◌, ℕ, suc, ◌+◌, List, [], ◌∷◌, ◌++◌, ℤ, length, map, drop, get_or, slice_get, slice_set, replicate}
+use Rattle.std.proofs.Common.{◌≡◌, refl, sym, ap, subst, ◌∙◌, ℕ, suc, ◌+◌, List, [], ◌∷◌, ◌++◌, ℤ, length, map, drop, slice_get, slice_set, replicate}
 use Rattle.std.proofs.Common.{Some, All, arith}
 use Rattle.std.proofs.lemmas.List.{map-append, append_assoc}
 use Rattle.std.proofs.lemmas.List.Elements.{All-push}
@@ -11,10 +11,11 @@ use Rattle.dp_columns.specs.declared.ColumnKind.TheVariants.{Nothing, Value, Ele
 use Rattle.dp_columns.specs.declared.column.Column.{Column}
 use Rattle.dp_columns.specs.Paired.{Grouped, did, as_store, block_told}
 use Rattle.dp_columns.specs.Held.{told_by, told_of, begun_stores, IsEmpty, AreEmpty, no_events}
-use Rattle.dp_columns.specs.Columned.{Columned, nothing_kept, with_told, with_block_store, block_ended, with_load, loads_ended, KeepsValues, KeepsElements}
-use Rattle.dp_columns.specs.Columned.{KeepsBlocks, value_cell}
+use Rattle.dp_columns.specs.Columned.{Columned, nothing_kept, added_at, with_told, with_block_stores, block_ended, with_loads, loads_ended, ToldStays}
+use Rattle.dp_columns.specs.Columned.{KeepsValues, KeepsElements, KeepsBlocks, value_cell}
 use Rattle.dp_columns.specs.Viewed.{kept_of}
-use Rattle.dp_columns.proofs.Places.{set_again, at_map, same_map, list_at, grown_map, set_map, rest_at}
+use Rattle.dp_columns.proofs.Behind.{block_behind, loads_behind}
+use Rattle.dp_columns.proofs.Places.{set_again, at_map, same_map, grown_map, set_map, rest_at}
 
 abbrev pub kind_of : Column → ColumnKind
 kind_of c = c.kind
@@ -96,39 +97,18 @@ module _ (columns : List Column) (loads : List Grouped) (place : ℕ) (c : Colum
     block_there : KeepsBlocks (slice_get old.kinds place) → c.kind ≡ Block
     block_there is = of_block c.kind (subst KeepsBlocks (ap (λ (o : Columned). slice_get o.kinds place) (sym seen) ∙ kind_there) is)
 
-    pub store_put : (bs : Grouped) (l : Load) → KeepsBlocks (slice_get old.kinds place) →
-        bs ≡ record { ended = c.blocks.ended; unfinished = c.blocks.unfinished ++ l ∷ [] } →
-        kept_of (slice_set columns place (record { kind = c.kind; values = c.values; elements = c.elements; blocks = bs })) loads ≡ with_block_store
-        place (as_store l) old
-    store_put bs l is more =
+    pub block_put : (bs : Grouped) (ls : List Load) → KeepsBlocks (slice_get old.kinds place) →
+        bs ≡ record { ended = c.blocks.ended ++ (c.blocks.unfinished ++ ls) ∷ []; unfinished = [] } →
+        kept_of (slice_set columns place (record { kind = c.kind; values = c.values; elements = c.elements; blocks = bs })) loads
+        ≡ block_ended place (with_block_stores place (map as_store ls) old)
+    block_put bs ls is more =
         let d : Column = record { kind = c.kind; values = c.values; elements = c.elements; blocks = bs } in
+        let all : List Load = c.blocks.unfinished ++ ls in
         let kind = block_there is in
-        let told = same_map told_of columns place c d at (ap (λ k. told_by k d) kind ∙ (λ k. map block_told (more k).ended)
-        ∙ sym (ap (λ k. told_by k c) kind)) in
-        let kinds = same_map kind_of columns place c d at refl in
-        let stores = grown_map begun_stores columns place c d (as_store l) at ((λ k. map as_store (more k).unfinished)
-        ∙ map-append as_store c.blocks.unfinished (l ∷ [])) in
-        (λ k. record {
-          kinds = kinds k;
-          told = told k;
-          stores = stores k;
-          loads = map (λ (e : Grouped). e.ended) loads;
-          loading = map (λ (e : Grouped).
-              e.unfinished) loads;
-        })
-        ∙ ap (with_block_store place (as_store l)) seen
-
-    pub block_put : (bs : Grouped) → KeepsBlocks (slice_get old.kinds place) →
-        bs ≡ record { ended = c.blocks.ended ++ c.blocks.unfinished ∷ []; unfinished = [] } →
-        kept_of (slice_set columns place (record { kind = c.kind; values = c.values; elements = c.elements; blocks = bs })) loads ≡ block_ended place old
-    block_put bs is more =
-        let d : Column = record { kind = c.kind; values = c.values; elements = c.elements; blocks = bs } in
-        let kind = block_there is in
-        let grown = ap (λ k. told_by k d) kind ∙ (λ k. map block_told (more k).ended) ∙ map-append block_told c.blocks.ended (c.blocks.unfinished ∷ [])
-        ∙ ap (λ (q : List Told). q ++ block_told c.blocks.unfinished ∷ []) (sym (ap (λ k. told_by k c) kind)) in
-        let told = grown_map told_of columns place c d (block_told c.blocks.unfinished) at grown
-        ∙ ap (λ (s : List Effect). slice_set (map told_of columns) place (get_or (map told_of columns) place [] ++ DidBlock s ∷ []))
-        (sym (list_at begun_stores columns place c at)) in
+        let grown = ap (λ k. told_by k d) kind ∙ (λ k. map block_told (more k).ended) ∙ map-append block_told c.blocks.ended (all ∷ [])
+        ∙ ap (λ (q : List Told). q ++ block_told all ∷ []) (sym (ap (λ k. told_by k c) kind)) in
+        let told = grown_map told_of columns place c d (block_told all) at grown
+        ∙ ap (λ (s : List Effect). added_at place (DidBlock s) (map told_of columns)) (map-append as_store c.blocks.unfinished ls) in
         let kinds = same_map kind_of columns place c d at refl in
         let stores = set_map begun_stores columns place d [] (λ k. map as_store (more k).unfinished) in
         (λ k. record {
@@ -139,28 +119,39 @@ module _ (columns : List Column) (loads : List Grouped) (place : ℕ) (c : Colum
           loading = map (λ (e : Grouped).
               e.unfinished) loads;
         })
-        ∙ ap (block_ended place) seen
+        ∙ sym (block_behind place (map as_store ls) (kept_of columns loads) (begun_stores c) (at_map begun_stores columns place c at))
+        ∙ ap (λ (k : Columned). block_ended place (with_block_stores place (map as_store ls) k)) seen
+
+    pub same_told : (bs : Grouped) → KeepsBlocks (slice_get old.kinds place) → bs.ended ≡ c.blocks.ended →
+        ToldStays old (kept_of (slice_set columns place (record { kind = c.kind; values = c.values; elements = c.elements; blocks = bs })) loads)
+    same_told bs is same =
+        let d : Column = record { kind = c.kind; values = c.values; elements = c.elements; blocks = bs } in
+        let kind = block_there is in
+        let told = ap (λ k. told_by k d) kind ∙ ap (map block_told) same ∙ sym (ap (λ k. told_by k c) kind) in
+        record {
+          kinds = same_map kind_of columns place c d at refl ∙ ap (λ (k : Columned). k.kinds) seen;
+          told = same_map told_of columns place c d at told ∙ ap (λ (k : Columned). k.told) seen;
+          loads = ap (λ (k : Columned). k.loads) seen;
+        }
 
 -- .. and events of loads
 module _ (columns : List Column) (loads : List Grouped) (place : ℕ) (g : Grouped) (at : slice_get loads place ≡ Some g) where
-  pub same_events : (d : Grouped) → d ≡ g → kept_of columns (slice_set loads place d) ≡ kept_of columns loads
-  same_events d e = ap (kept_of columns) (ap (slice_set loads place) e ∙ set_again loads place g at)
+  module _ (old : Columned) (seen : kept_of columns loads ≡ old) where
+    pub loads_put : (d : Grouped) (ls : List Load) → d ≡ record { ended = g.ended ++ (g.unfinished ++ ls) ∷ []; unfinished = [] } →
+        kept_of columns (slice_set loads place d) ≡ loads_ended place (with_loads place ls old)
+    loads_put d ls more =
+        let ended = grown_map (λ (e : Grouped). e.ended) loads place g d (g.unfinished ++ ls) at (λ k. (more k).ended) in
+        let unfinished = set_map (λ (e : Grouped). e.unfinished) loads place d [] (λ k. (more k).unfinished) in
+        (λ k. record { kinds = map kind_of columns; told = map told_of columns; stores = map begun_stores columns; loads = ended k; loading = unfinished k })
+        ∙ sym (loads_behind place ls (kept_of columns loads) g.unfinished (at_map (λ (e : Grouped). e.unfinished) loads place g at))
+        ∙ ap (λ (k : Columned). loads_ended place (with_loads place ls k)) seen
 
-  pub load_put : (d : Grouped) (l : Load) → d ≡ record { ended = g.ended; unfinished = g.unfinished ++ l ∷ [] } →
-      kept_of columns (slice_set loads place d) ≡ with_load place l (kept_of columns loads)
-  load_put d l more =
-      let ended = same_map (λ (e : Grouped). e.ended) loads place g d at (λ k. (more k).ended) in
-      let unfinished = grown_map (λ (e : Grouped). e.unfinished) loads place g d l at (λ k. (more k).unfinished) in
-      λ k. record { kinds = map kind_of columns; told = map told_of columns; stores = map begun_stores columns; loads = ended k; loading = unfinished k }
-
-  pub loads_put : (d : Grouped) → d ≡ record { ended = g.ended ++ g.unfinished ∷ []; unfinished = [] } →
-      kept_of columns (slice_set loads place d) ≡ loads_ended place (kept_of columns loads)
-  loads_put d more =
-      let all = map (λ (e : Grouped). e.ended) loads in
-      let ended = grown_map (λ (e : Grouped). e.ended) loads place g d g.unfinished at (λ k. (more k).ended)
-      ∙ ap (λ (s : List Load). slice_set all place (get_or all place [] ++ s ∷ [])) (sym (list_at (λ (e : Grouped). e.unfinished) loads place g at)) in
-      let unfinished = set_map (λ (e : Grouped). e.unfinished) loads place d [] (λ k. (more k).unfinished) in
-      λ k. record { kinds = map kind_of columns; told = map told_of columns; stores = map begun_stores columns; loads = ended k; loading = unfinished k }
+    pub same_loads : (d : Grouped) → d.ended ≡ g.ended → ToldStays old (kept_of columns (slice_set loads place d))
+    same_loads d same = record {
+      kinds = ap (λ (k : Columned). k.kinds) seen;
+      told = ap (λ (k : Columned). k.told) seen;
+      loads = same_map (λ (e : Grouped). e.ended) loads place g d at same ∙ ap (λ (k : Columned). k.loads) seen;
+    }
 
 -- columns made one after the other
 pub column_pushed : (kinds : List ColumnKind) (told new : List Column) (d : Column) (i : ℕ) (k : ColumnKind) → slice_get kinds i ≡ Some k → d.kind ≡ k →

@@ -1,4 +1,4 @@
--- Events as they are seen: one pair more, one event more, and the next one that is read.
+-- Events as they are seen: more pairs, one event more, and the next one that is read.
 use Rattle.std.proofs.Common.{◌≡◌, refl, sym, ap, subst, ◌∙◌, ℕ, suc, ◌+◌, ◌-◌, ◌≤◌, List, [], ◌∷◌, ◌++◌, length, take, drop, slice_get, Some, arith}
 use Rattle.std.specs.List.{sum, sum_by}
 use Rattle.std.proofs.lemmas.List.{drop-append-le, length-drop, take_all}
@@ -19,13 +19,12 @@ drop_all (x ∷ xs) = drop_all xs
 
 module _ (counts : List ℕ) (settled : ℕ) (pairs : List Load) (old : Grouped) (seen : grouped counts settled pairs ≡ old)
     (within : (settled ≡ sum counts) × (settled ≤ length pairs)) where
-  pub event_put : (new : List Load) (l : Load) → new ≡ pairs ++ l ∷ [] →
-      grouped counts settled new ≡ record { ended = old.ended; unfinished = old.unfinished ++ l ∷ [] }
-  event_put new l e =
+  pub pairs_put : (new ls : List Load) → new ≡ pairs ++ ls → grouped counts settled new ≡ record { ended = old.ended; unfinished = old.unfinished ++ ls }
+  pairs_put new ls e =
       let same : split_by counts new ≡ old.ended =
-      ap (split_by counts) e ∙ parts_longer counts pairs (l ∷ []) (omega (arith, within.0, within.1)) ∙ ap (λ (g : Grouped). g.ended) seen in
-      let more : drop settled new ≡ old.unfinished ++ l ∷ [] =
-      ap (drop settled) e ∙ drop-append-le settled pairs (l ∷ []) within.1 ∙ ap (λ (g : Grouped). g.unfinished ++ l ∷ []) seen in
+      ap (split_by counts) e ∙ parts_longer counts pairs ls (omega (arith, within.0, within.1)) ∙ ap (λ (g : Grouped). g.ended) seen in
+      let more : drop settled new ≡ old.unfinished ++ ls =
+      ap (drop settled) e ∙ drop-append-le settled pairs ls within.1 ∙ ap (λ (g : Grouped). g.unfinished ++ ls) seen in
       λ k. record { ended = same k; unfinished = more k }
 
   pub event_ended : (len : ℕ) (new : List ℕ) → len ≡ length pairs → new ≡ counts ++ (len - settled) ∷ [] →

@@ -1,4 +1,5 @@
 pub mod Places
+pub mod Behind
 pub mod PairLists
 pub mod PartLists
 pub mod EventLists

@@ -1,10 +1,17 @@
 -- Rows of cells and of values side by side.
-use Rattle.std.proofs.Common.{◌≡◌, refl, sym, ap, ◌∙◌, ℕ, zero, suc, ◌-◌, List, [], ◌∷◌, ◌++◌, ℤ, length, take, drop, slice_get, Some, arith}
+use Rattle.std.proofs.Common.{◌≡◌, refl, sym, ap, ◌∙◌, ℕ, zero, suc, ◌-◌, List, [], ◌∷◌, ◌++◌, ℤ, length, map, take, drop, slice_get, Some, arith}
 use Rattle.std.proofs.lemmas.List.{length-drop}
 use Rattle.dp_tree.specs.Eval.{Load}
+use Rattle.dp_tree.specs.Step.{Effect}
+use Rattle.dp_columns.specs.declared.Pair.{Pair}
 use Rattle.dp_columns.specs.declared.pairs.Part.{Part}
 use Rattle.dp_columns.specs.Lent.{IsPart}
-use Rattle.dp_columns.specs.Paired.{load_of, pairs_of}
+use Rattle.dp_columns.specs.Paired.{load_of, pairs_of, as_store, pair_load, pair_store}
+
+-- pairs as loads, and these as stores
+pub stores_of_pairs : (ps : List Pair) → map as_store (map pair_load ps) ≡ map pair_store ps
+stores_of_pairs [] = refl
+stores_of_pairs (p ∷ ps) = ap (λ (ss : List Effect). pair_store p ∷ ss) (stores_of_pairs ps)
 
 pub length_pairs : (cs : List ℕ) (vs : List ℤ) → length cs ≡ length vs → length (pairs_of cs vs) ≡ length vs
 length_pairs [] vs e = e

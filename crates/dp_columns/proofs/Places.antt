@@ -17,6 +17,18 @@ set_again [] i x e = refl
 set_again (y ∷ xs) zero x e = ap (λ z. z ∷ xs) (sym (unwrapped e))
 set_again (y ∷ xs) (suc i) x e = ap (λ zs. y ∷ zs) (set_again xs i x e)
 
+-- of two things set at a place the second stays
+pub set_twice : {X : Type 0} (xs : List X) (i : ℕ) (x y : X) → set (set xs i x) i y ≡ set xs i y
+set_twice [] i x y = refl
+set_twice (z ∷ xs) zero x y = refl
+set_twice (z ∷ xs) (suc i) x y = ap (λ zs. z ∷ zs) (set_twice xs i x y)
+
+-- what is set stands there
+pub set_there : {X : Type 0} (xs : List X) (i : ℕ) (x y : X) → slice_get xs i ≡ Some x → slice_get (set xs i y) i ≡ Some y
+set_there [] i x y e = absurd (cc e)
+set_there (z ∷ xs) zero x y e = refl
+set_there (z ∷ xs) (suc i) x y e = set_there xs i x y e
+
 -- the list from that place on
 pub rest_at : {X : Type 0} (xs : List X) (i : ℕ) (x : X) → slice_get xs i ≡ Some x → drop i xs ≡ x ∷ drop (suc i) xs
 rest_at [] i x e = absurd (cc e)

@@ -1,5 +1,5 @@
 -- Columns as their callers see them: what each place told, and what isn't ended yet.
-use Rattle.std.specs.Prelude.{ℕ, List, [], ◌∷◌, ◌++◌, map, Option, Some, get_or, slice_set}
+use Rattle.std.specs.Prelude.{◌≡◌, ℕ, List, [], ◌∷◌, ◌++◌, map, Option, Some, get_or, slice_set}
 use Rattle.dp_tree.specs.Step.{Effect}
 use Rattle.dp_tree.specs.Eval.{Load}
 use Rattle.dp_lean.specs.Queues.{Told, DidBlock}
@@ -36,6 +36,11 @@ with_told place told k = record { kinds = k.kinds; told = added_at place told k.
 abbrev pub with_block_store : ℕ → Effect → Columned → Columned
 with_block_store place store k = record { kinds = k.kinds; told = k.told; stores = added_at place store k.stores; loads = k.loads; loading = k.loading }
 
+-- .. these things more
+abbrev pub with_block_stores : ℕ → List Effect → Columned → Columned
+with_block_stores place [] k = k
+with_block_stores place (s ∷ rest) k = with_block_stores place rest (with_block_store place s k)
+
 -- its block is ended
 abbrev pub block_ended : ℕ → Columned → Columned
 block_ended place k = record {
@@ -50,6 +55,11 @@ block_ended place k = record {
 abbrev pub with_load : ℕ → Load → Columned → Columned
 with_load place load k = record { kinds = k.kinds; told = k.told; stores = k.stores; loads = k.loads; loading = added_at place load k.loading }
 
+-- .. these things more
+abbrev pub with_loads : ℕ → List Load → Columned → Columned
+with_loads place [] k = k
+with_loads place (l ∷ rest) k = with_loads place rest (with_load place l k)
+
 -- all loads of its event were put
 abbrev pub loads_ended : ℕ → Columned → Columned
 loads_ended place k = record {
@@ -59,6 +69,12 @@ loads_ended place k = record {
   loads = added_at place (get_or k.loading place []) k.loads;
   loading = slice_set k.loading place [];
 }
+
+-- What was told stays as it is, whatever waits for the end of its event.
+pub record ToldStays (old new : Columned) : Type 0 where
+  pub kinds : new.kinds ≡ old.kinds
+  pub told : new.told ≡ old.told
+  pub loads : new.loads ≡ old.loads
 
 -- values alone are kept, cells and values, or blocks
 abbrev pub KeepsValues : Option ColumnKind → Type 0

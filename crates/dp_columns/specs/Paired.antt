@@ -4,6 +4,7 @@ use Rattle.std.specs.List.{zip}
 use Rattle.dp_tree.specs.Eval.{Load}
 use Rattle.dp_tree.specs.Step.{Effect, Stored}
 use Rattle.dp_lean.specs.Queues.{Told, Did, DidBlock}
+use Rattle.dp_columns.specs.declared.Pair.{Pair}
 
 -- a cell and the value beside it, as a load
 abbrev pub load_of : ℕ × ℤ → Load
@@ -20,6 +21,13 @@ did l = Did l.cell l.value
 abbrev pub as_store : Load → Effect
 as_store l = Stored l.cell l.value
 
+-- a cell with its value, as a load and as a store
+abbrev pub pair_load : Pair → Load
+pair_load p = record { cell = p.cell; value = p.value }
+
+abbrev pub pair_store : Pair → Effect
+pair_store p = Stored p.cell p.value
+
 -- what a block with these stores tells
 abbrev pub block_told : List Load → Told
 block_told stores = DidBlock (map as_store stores)
@@ -34,9 +42,9 @@ pub record Grouped : Type 0 where
   pub ended : List (List Load)
   pub unfinished : List Load
 
--- .. where the event that isn't ended has one pair more
-abbrev pub with_pair : Load → Grouped → Grouped
-with_pair l g = record { ended = g.ended; unfinished = g.unfinished ++ l ∷ [] }
+-- .. where the event that isn't ended has these pairs more
+abbrev pub with_pairs : List Load → Grouped → Grouped
+with_pairs ls g = record { ended = g.ended; unfinished = g.unfinished ++ ls }
 
 -- .. and where it is ended
 abbrev pub event_ended : Grouped → Grouped

@@ -1,8 +1,10 @@
 //! Pairs, so many for each event.
-ghost use Rattle.std.specs.Prelude.{◌≡◌, ◌++◌, ◌∷◌, ◌<◌, ◌≤◌, ◌-◌, ◌+◌, [], length, take, drop, slice_get, Some, OnOk, OnErr};
-ghost use Rattle.dp_columns.specs.Paired.{with_pair, event_ended};
+ghost use Rattle.std.specs.Prelude.{◌≡◌, ◌<◌, ◌≤◌, ◌-◌, ◌+◌, [], List, length, map, drop, slice_get, Some, OnOk, OnErr};
+ghost use Rattle.dp_tree.specs.Eval.{Load};
+ghost use Rattle.dp_columns.specs.Paired.{pair_load, with_pairs, event_ended};
 ghost use Rattle.dp_columns.specs.Ahead.{IsReached, FindsNext};
 
+use crate::Pair;
 use crate::pairs::{Pairs, Part};
 use dp_room::{NoMemory, Row};
 use std::alloc::Global;
@@ -73,18 +75,18 @@ impl Events {
         }
     }
 
-    /// One pair more of the event that isn't ended.
+    /// More pairs of the event that isn't ended.
     #[inline(always)]
-    pub(crate) fn put(&mut self, cell: u32, value: i64) -> Result<(), NoMemory>
-        ensures ok { OnOk result (self.new ≡ with_pair (record { cell = cell; value = value }) self.old) }
-        ensures err { OnErr result (self.new ≡ self.old) }
+    fn put_all(&mut self, pairs: &[Pair]) -> Result<(), NoMemory>
+        ensures ok { OnOk result (self.new ≡ with_pairs (map pair_load pairs.now) self.old) }
+        ensures more { (more : List Load) × (self.new ≡ with_pairs more self.old) }
     {
-        self.pairs.put(cell, value)
+        self.pairs.put_all(pairs)
     }
 
     /// The event is ended.
     #[inline(always)]
-    pub(crate) fn end(&mut self) -> Result<(), NoMemory>
+    fn end(&mut self) -> Result<(), NoMemory>
         ensures ok { OnOk result (self.new ≡ event_ended self.old) }
         ensures err { OnErr result (self.new ≡ self.old) }
     {
@@ -92,6 +94,16 @@ impl Events {
         self.counts.push(len - self.settled)?;
         self.settled = len;
         Ok(())
+    }
+
+    /// An event is ended, with these pairs behind those that are put.
+    #[inline(always)]
+    pub(crate) fn put(&mut self, pairs: &[Pair]) -> Result<(), NoMemory>
+        ensures ok { OnOk result (self.new ≡ event_ended (with_pairs (map pair_load pairs.now) self.old)) }
+        ensures err { OnErr result (self.new.ended ≡ self.old.ended) }
+    {
+        self.put_all(pairs)?;
+        self.end()
     }
 
     /// The event at the mark.

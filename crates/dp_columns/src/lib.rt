@@ -15,6 +15,13 @@ pub use columns::Columns;
 pub use law::columns_hold_the_queues;
 pub use reader::{Reader, ReaderRoom};
 
+/// A cell and a value.
+#[derive(Clone, Copy)]
+pub struct Pair {
+    pub cell: u32,
+    pub value: i64,
+}
+
 /// What is kept of the values of a site.
 #[derive(Clone, Copy)]
 pub enum ColumnKind {

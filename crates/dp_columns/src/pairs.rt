@@ -1,8 +1,10 @@
 //! Cells with a value each, in two rows.
-ghost use Rattle.std.specs.Prelude.{◌≡◌, ◌++◌, ◌∷◌, ◌<◌, ◌≤◌, [], length, ◌-◌, take, drop, slice_get, Some, MatchOption, OnOk, OnErr};
-ghost use Rattle.dp_columns.specs.Paired.{pairs_of};
+ghost use Rattle.std.specs.Prelude.{◌≡◌, ◌++◌, ◌∷◌, ◌<◌, ◌≤◌, [], List, length, map, ◌-◌, take, drop, slice_get, Some, MatchOption, OnOk, OnErr};
+ghost use Rattle.dp_tree.specs.Eval.{Load};
+ghost use Rattle.dp_columns.specs.Paired.{pairs_of, pair_load};
 ghost use Rattle.dp_columns.specs.Lent.{IsPart};
 
+use crate::Pair;
 use dp_room::{NoMemory, Row};
 use std::alloc::Global;
 use std::marker::Model;
@@ -91,6 +93,18 @@ impl Pairs {
             Ok(()) => Ok(()),
             Err(NoMemory) => shortened(&mut self.cells, len),
         }
+    }
+
+    /// More, in this order. From the first one on that finds no room, they are left out.
+    #[inline(always)]
+    pub(crate) fn put_all(&mut self, pairs: &[Pair]) -> Result<(), NoMemory>
+        ensures ok { OnOk result (self.new ≡ self.old ++ map pair_load pairs.now) }
+        ensures more { (more : List Load) × (self.new ≡ self.old ++ more) }
+    {
+        for pair in pairs {
+            self.put(pair.cell, pair.value)?;
+        }
+        Ok(())
     }
 
     /// How many there are.

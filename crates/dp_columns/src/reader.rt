@@ -55,6 +55,7 @@ fn begin(marks: &mut Row<Mark>, places: usize) -> Result<(), NoMemory>
     ensures { OnOk result (marks.new ≡ replicate places (record { at = 0; from = 0 })) }
 {
     marks.clear();
+    marks.reserve(places)?;
     for _place in 0..places {
         marks.push(Mark { at: 0, from: 0 })?;
     }

@@ -5,11 +5,11 @@ use Rattle.std.proofs.lemmas.List.Sums.{sum_by-append}
 use Rattle.dp_semantics.specs.Words.{cell_of}
 use Rattle.dp_net.specs.NetItems.{Item, Said, weight, weights, said_all}
 use Rattle.dp_lean.specs.Queues.{Told, Did, steps_in}
-use Rattle.dp_columns.specs.Columned.{Columned, with_told, with_load, loads_ended}
+use Rattle.dp_columns.specs.Columned.{Columned, with_told, with_load, loads_ended, with_loads}
 use Rattle.dp_columns.specs.Telling.{put_items}
 use Rattle.dp_columns.specs.declared.ColumnKind.{ColumnKind}
 use Rattle.dp_lean_turn.specs.Notes.{kind_at}
-use Rattle.dp_lean_turn.specs.Told.{keeps_something, with_loads, event_put, put_own}
+use Rattle.dp_lean_turn.specs.Told.{keeps_something, event_put, put_own}
 
 pub said_join : (a b : List Word) → said_all (a ++ b) ≡ said_all a ++ said_all b
 said_join [] b = refl

@@ -2,7 +2,7 @@
 use Rattle.std.proofs.Common.{◌≡◌, refl, sym, ap, ◌∙◌, ℕ, zero, suc, ◌<◌, List, [], ◌∷◌, ◌++◌, length, set, slice_get, Some, ◌⊎◌, inl, inr, eq-eqb}
 use Rattle.std.proofs.lemmas.Option.{slice_get_within}
 use Rattle.dp_room.proofs.ListLemmas.{get_pushed, get_before, get_set_same}
-use Rattle.dp_lean_turn.specs.declared.Entry.{Entry}
+use Rattle.dp_columns.specs.declared.Pair.{Pair}
 use Rattle.dp_lean_turn.specs.Leading.{LeadBack}
 use Rattle.dp_lean_turn.specs.Logged.{AreOfOtherCells}
 
@@ -15,11 +15,11 @@ get_set_other (x ∷ xs) (suc i) zero y apart = refl
 get_set_other (x ∷ xs) (suc i) (suc k) y apart = get_set_other xs i k y (λ same. apart (ap suc same))
 
 -- there are more places
-pub leads_further : (entries : List Entry) (old new : List ℕ) → ((more : List ℕ) × (new ≡ old ++ more)) → LeadBack entries old → LeadBack entries new
+pub leads_further : (entries : List Pair) (old new : List ℕ) → ((more : List ℕ) × (new ≡ old ++ more)) → LeadBack entries old → LeadBack entries new
 leads_further entries old new (more, is) leads k e at = ap (λ (ps : List ℕ). slice_get ps e.cell) is ∙ get_before old more e.cell k (leads k e at)
 
 -- an entry more, of a cell that none had
-pub leads_added : (entries : List Entry) (places : List ℕ) (x : Entry) → AreOfOtherCells x.cell (length entries) entries → x.cell < length places →
+pub leads_added : (entries : List Pair) (places : List ℕ) (x : Pair) → AreOfOtherCells x.cell (length entries) entries → x.cell < length places →
     LeadBack entries places →
     LeadBack (entries ++ x ∷ []) (set places x.cell (length entries))
 leads_added entries places x others within leads k e at = by_place (get_pushed entries x k e at)
@@ -29,5 +29,5 @@ leads_added entries places x others within leads k e at = by_place (get_pushed e
         let apart : (e.cell ≡ x.cell) → ⊥ = λ same. cc (sym (eq-eqb e.cell x.cell same) ∙ others k e (slice_get_within entries k e there) there) in
         get_set_other places x.cell e.cell (length entries) apart ∙ leads k e there
     by_place (inr last) =
-        ap (λ (y : Entry). slice_get (set places x.cell (length entries)) y.cell) (sym last.1) ∙ get_set_same places x.cell (length entries) within
+        ap (λ (y : Pair). slice_get (set places x.cell (length entries)) y.cell) (sym last.1) ∙ get_set_same places x.cell (length entries) within
         ∙ ap Some (sym last.0)

@@ -9,12 +9,13 @@ use Rattle.dp_lean.specs.LeanTurn.{BrokenOff}
 use Rattle.dp_lean_code.specs.LeanHeld.{Silent, Held, Ends}
 use Rattle.dp_lean_code.specs.LeanMade.{held_after, next_at, made_with, one_more}
 use Rattle.dp_columns.specs.Columned.{Columned}
+use Rattle.dp_columns.specs.Paired.{pair_load, pair_store}
 use Rattle.dp_lean_turn.specs.declared.Answer.TheVariants as answer
 use Rattle.dp_lean_turn.specs.declared.Frame.{Frame}
 use Rattle.dp_lean_turn.specs.declared.Note.{Note}
 use Rattle.dp_lean_turn.specs.declared.Teller.{Teller}
 use Rattle.dp_lean_turn.specs.Notes.{kind_at}
-use Rattle.dp_lean_turn.specs.Told.{entry_load, entry_store, event_put, put_own}
+use Rattle.dp_lean_turn.specs.Told.{event_put, put_own}
 use Rattle.dp_lean_turn.specs.Logged.{AreLogged, steps_of}
 use Rattle.dp_lean_turn.specs.Adding.{IsOwnEvent, IsEventPut, Adds}
 use Rattle.dp_lean_turn.proofs.Added.{puts_then, puts_event, weights_more, words_count, steps_more}
@@ -37,14 +38,14 @@ module _ (f : Frame) (m : Marks) (before : Columned) (old : Teller) (n : Note) (
 
   -- what is put is what the event's items put
   put_is : old.loads.wanting ≡ false → (k : Columned) →
-      event_put n.checked n.kind n.place (map entry_load old.loads.entries) cell value k ≡ put_own p plan f.kinds.own.now (said_all (words_of p plan event)) k
+      event_put n.checked n.kind n.place (map pair_load old.loads.entries) cell value k ≡ put_own p plan f.kinds.own.now (said_all (words_of p plan event)) k
   put_is there k = elim (cases_Bool n.checked) [
     | inl q ↦
-        ap (λ (b : Bool). event_put b n.kind n.place (map entry_load old.loads.entries) cell value k) q
+        ap (λ (b : Bool). event_put b n.kind n.place (map pair_load old.loads.entries) cell value k) q
         ∙ ap (λ (ls : List Load). event_put true n.kind n.place ls cell value k) (is.noted there q)
         ∙ rest true ∙ sym (puts_event p plan f.kinds.own.now event k true (sym checked_is ∙ q))
     | inr q ↦
-        ap (λ (b : Bool). event_put b n.kind n.place (map entry_load old.loads.entries) cell value k) q ∙ rest false
+        ap (λ (b : Bool). event_put b n.kind n.place (map pair_load old.loads.entries) cell value k) q ∙ rest false
         ∙ sym (puts_event p plan f.kinds.own.now event k false (sym checked_is ∙ q))
   ]
     where
@@ -63,7 +64,7 @@ module _ (f : Frame) (m : Marks) (before : Columned) (old : Teller) (n : Note) (
     words_are : old.loads.wanting ≡ false → words + 1 ≡ length (words_of p plan event)
     words_are there = ap (λ (k : ℕ). k + 1) words_is ∙ elim (cases_Bool n.checked) [
       | inl q ↦
-          ap (λ (b : Bool). (if b then length old.loads.entries else 0) + 1) q ∙ ap (λ (k : ℕ). k + 1) (sym (length-map old.loads.entries entry_load)
+          ap (λ (b : Bool). (if b then length old.loads.entries else 0) + 1) q ∙ ap (λ (k : ℕ). k + 1) (sym (length-map old.loads.entries pair_load)
           ∙ ap length (is.noted there q))
           ∙ sym (words_count p plan f.kinds.own.now event true (sym checked_is ∙ q))
       | inr q ↦ ap (λ (b : Bool). (if b then length old.loads.entries else 0) + 1) q ∙ sym (words_count p plan f.kinds.own.now event false (sym checked_is ∙ q))
@@ -88,9 +89,6 @@ module _ (f : Frame) (m : Marks) (before : Columned) (old : Teller) (n : Note) (
           by true = rw (fits_as there false e) refl
           by false = refl
 
-      pub tells_other : event_as_assumed p plan event ≡ false → (w : Teller) → Adds f m before h event w answer.Broken
-      tells_other e w below next = ap (made_with p plan m h below next event) none ∙ rw e refl
-
       pub tells_event : (there : old.loads.wanting ≡ false) → event_as_assumed p plan event ≡ true → nat_le (old.used + (words + 1)) plan.words ≡ true →
           (mid new : Teller) → mid ≡ record old { used = old.used + (words + 1); steps = old.steps + 1 } →
           IsEventPut n cell value mid new → Adds f m before h event new answer.Goes
@@ -111,12 +109,12 @@ module _ (f : Frame) (m : Marks) (before : Columned) (old : Teller) (n : Note) (
       )
         where
           whole : new ≡ record old {
-            own = event_put n.checked n.kind n.place (map entry_load old.loads.entries) cell value old.own;
+            own = event_put n.checked n.kind n.place (map pair_load old.loads.entries) cell value old.own;
             used = old.used + (words
                 + 1);
             steps = old.steps + 1;
           }
-          whole = put_in ∙ ap (λ (w : Teller). record w { own = event_put n.checked n.kind n.place (map entry_load w.loads.entries) cell value w.own }) counted
+          whole = put_in ∙ ap (λ (w : Teller). record w { own = event_put n.checked n.kind n.place (map pair_load w.loads.entries) cell value w.own }) counted
 
           not_running : old.log.running ≡ false
           not_running = by h.block none is.tells.log
@@ -145,7 +143,7 @@ module _ (f : Frame) (m : Marks) (before : Columned) (old : Teller) (n : Note) (
     -- one step more, with these net stores
     pub block_event : nat_le (old.used + (0 + 1)) plan.words ≡ true → (mid new : Teller) → mid ≡ record old { used = old.used + (0 + 1); steps = old.steps + 1 }
         → new ≡ record mid { log = record mid.log { stores = new.log.stores } } →
-        map entry_store new.log.stores ≡ told_after (m.hides (stage_of p plan b.site)) b.told event.effect → Adds f m before h event new answer.Goes
+        map pair_store new.log.stores ≡ told_after (m.hides (stage_of p plan b.site)) b.told event.effect → Adds f m before h event new answer.Goes
     block_event fits mid new counted stays stores = (
       h.own,
       Some (one_more p plan m b event.effect),

@@ -1,26 +1,27 @@
 -- An own block that is told.
-use Rattle.dp_semantics.proofs.Names.{◌≡◌, refl, sym, ap, ◌∙◌, subst, append_assoc, append-nil, arith, ℕ, zero, suc, ◌+◌, Bool, true, false, if◌then◌else◌}
-use Rattle.dp_semantics.proofs.Names.{List, [], ◌∷◌, ◌++◌, map, Option, Some, None, slice_get, slice_set, sum_by, sum_by-cons, ℤ, Word, Effect, first_site}
+use Rattle.dp_semantics.proofs.Names.{◌≡◌, refl, sym, ap, ◌∙◌, subst, arith, ℕ, ◌+◌, Bool, true, false, if◌then◌else◌}
+use Rattle.dp_semantics.proofs.Names.{List, [], ◌∷◌, ◌++◌, map, Option, Some, None, slice_get, sum_by, sum_by-cons, ℤ, Word, Effect, first_site}
 use Rattle.dp_semantics.proofs.Names.{is_checked}
 use Rattle.std.proofs.lemmas.List.Sums.{sum_by-append}
-use Rattle.std.proofs.lemmas.Option.{get_or_from_slice_get}
 use Rattle.dp_semantics.specs.Words.{is_load}
 use Rattle.dp_net.specs.NetItems.{Marks, Item, Said, Net, weight}
 use Rattle.dp_lean.specs.Queues.{DidBlock, steps_in}
 use Rattle.dp_lean_code.specs.LeanHeld.{Silent, Flat}
 use Rattle.dp_lean_code.specs.LeanMade.{finished}
-use Rattle.dp_columns.specs.Columned.{Columned, with_told, block_ended, added_at}
+use Rattle.dp_columns.specs.Columned.{Columned, with_told, block_ended, added_at, with_block_stores}
 use Rattle.dp_columns.specs.Telling.{put_items, put_load_word, put_done_word, end_word}
 use Rattle.dp_columns.specs.declared.ColumnKind.{ColumnKind}
 use Rattle.dp_columns.specs.declared.ColumnKind.TheVariants.{Nothing}
+use Rattle.dp_columns.proofs.Behind.{block_behind}
 use Rattle.dp_columns.proofs.Places.{set_again, at_map}
+use Rattle.dp_columns.specs.Paired.{pair_store}
 use Rattle.dp_lean_turn.specs.declared.Answer.TheVariants as answer
 use Rattle.dp_lean_turn.specs.declared.Frame.{Frame}
 use Rattle.dp_lean_turn.specs.declared.Note.{Note}
 use Rattle.dp_lean_turn.specs.declared.Teller.{Teller}
 use Rattle.dp_lean_turn.specs.declared.Turn.{Turn}
 use Rattle.dp_lean_turn.specs.Notes.{kind_at}
-use Rattle.dp_lean_turn.specs.Told.{keeps_something, entry_store, with_block_stores, put_own}
+use Rattle.dp_lean_turn.specs.Told.{keeps_something, put_own}
 use Rattle.dp_lean_turn.specs.Standing.{IsSettled, TellsOwn, Stands}
 use Rattle.dp_lean_turn.specs.Adding.{IsBlockPut}
 use Rattle.dp_lean_turn.specs.Doing.{Does}
@@ -29,45 +30,13 @@ use Rattle.dp_lean_turn.proofs.Added.{puts_then}
 
 -- ---- the stores of a block
 
-set_twice : {X : Type 0} (xs : List X) (i : ℕ) (a b : X) → slice_set (slice_set xs i a) i b ≡ slice_set xs i b
-set_twice [] i a b = refl
-set_twice (x ∷ xs) zero a b = refl
-set_twice (x ∷ xs) (suc i) a b = ap (λ ys. x ∷ ys) (set_twice xs i a b)
-
-set_seen : {X : Type 0} (xs : List X) (i : ℕ) (x y : X) → slice_get xs i ≡ Some x → slice_get (slice_set xs i y) i ≡ Some y
-set_seen [] i x y e = absurd (cc e)
-set_seen (z ∷ xs) zero x y e = refl
-set_seen (z ∷ xs) (suc i) x y e = set_seen xs i x y e
-
--- they stand behind those that are there
-stores_put : (place : ℕ) (ss : List Effect) (k : Columned) (before : List Effect) → slice_get k.stores place ≡ Some before →
-    with_block_stores place ss k ≡ record k { stores = slice_set k.stores place (before ++ ss) }
-stores_put place [] k before at = λ i. record k { stores = sym (ap (slice_set k.stores place) (append-nil before) ∙ set_again k.stores place before at) i }
-stores_put place (s ∷ ss) k before at =
-    let one : added_at place s k.stores ≡ slice_set k.stores place (before ++ s ∷ []) = ap (λ q. slice_set k.stores place (q ++ s ∷ []))
-    (get_or_from_slice_get k.stores place before [] at) in
-    ap (λ qs. with_block_stores place ss (record k { stores = qs })) one
-    ∙ stores_put place ss (record k { stores = slice_set k.stores place (before ++ s ∷ []) }) (before ++ s ∷ [])
-    (set_seen k.stores place before (before ++ s ∷ []) at)
-    ∙ (λ i. record k {
-      stores = (set_twice k.stores place (before ++ s ∷ []) ((before ++ s ∷ []) ++ ss)
-          ∙ ap (slice_set k.stores place) (append_assoc before (s ∷ []) ss)) i;
-    })
-
 -- a block is told whole where none waited for its end
 pub block_whole : (k : Columned) (kind : ColumnKind) (place : ℕ) (ss : List Effect) → IsSettled k → slice_get k.kinds place ≡ Some kind →
     block_ended place (with_block_stores place ss k) ≡ with_told place (DidBlock ss) k
 block_whole k kind place ss settled there =
     let none : slice_get k.stores place ≡ Some [] = ap (λ qs. slice_get qs place) settled
     ∙ at_map {A = ColumnKind} {B = List Effect} (λ _. []) k.kinds place kind there in
-    ap (block_ended place) (stores_put place ss k [] none)
-    ∙ (λ i. record {
-      kinds = k.kinds;
-      told = added_at place (DidBlock (get_or_from_slice_get (slice_set k.stores place ss) place ss [] (set_seen k.stores place [] ss none) i)) k.told;
-      stores = (set_twice k.stores place ss [] ∙ set_again k.stores place [] none) i;
-      loads = k.loads;
-      loading = k.loading;
-    })
+    block_behind place ss k [] none ∙ (λ i. record k { told = added_at place (DidBlock ss) k.told; stores = set_again k.stores place [] none i })
 
 -- ---- what items leave as it is
 
@@ -109,11 +78,11 @@ module _ (f : Frame) (m : Marks) (before : Columned) (old : Teller) (own : List 
       all.stores ∙ tells.settled ∙ ap (λ (kinds : List ColumnKind). map {A = ColumnKind} {B = List Effect} (λ _. []) kinds) (sym all.kinds)
 
   kept_is : (t : Bool) → keeps_something kind ≡ t →
-      (if t then block_ended old.log.place (with_block_stores old.log.place (map entry_store old.log.stores) old.own) else old.own)
+      (if t then block_ended old.log.place (with_block_stores old.log.place (map pair_store old.log.stores) old.own) else old.own)
       ≡ (if t then with_told old.log.place (DidBlock b.told) old.own else old.own)
   kept_is true e =
       let some : Nothing ≡ kind → ⊥ = λ same. let clash : false ≡ true = ap keeps_something same ∙ e in cc clash in
-      block_whole old.own kind old.log.place (map entry_store old.log.stores) settled (kind_found kind some old.own.kinds old.log.place (sym is_kind))
+      block_whole old.own kind old.log.place (map pair_store old.log.stores) settled (kind_found kind some old.own.kinds old.log.place (sym is_kind))
       ∙ ap (λ ss. with_told old.log.place (DidBlock ss) old.own) tells.log.1.stores
   kept_is false e = refl
 

@@ -1,10 +1,10 @@
 //! The net stores of a block that is running.
 ghost use Rattle.std.specs.Prelude.{◌≡◌, ◌<◌, ◌++◌, ◌∷◌, [], map, length, List, OnOk, OnErr, MatchOption, ℕ};
 ghost use Rattle.dp_net.specs.NetItems.{put};
-ghost use Rattle.dp_lean_turn.specs.Told.{entry_store};
+ghost use Rattle.dp_columns.specs.Paired.{pair_store};
 ghost use Rattle.dp_lean_turn.specs.Logged.{AreOfOtherCells, IsFirstAt};
 
-use crate::Entry;
+use dp_columns::Pair;
 use dp_room::{NoMemory, Row};
 use std::alloc::Global;
 use std::marker::Model;
@@ -13,17 +13,17 @@ use std::marker::Model;
 /// kept of a cell is looked at only where it leads to an entry of that cell, so that a block begins without clearing it.
 #[derive(Drop)]
 pub struct NetLog {
-    entries: Row<Entry>,
+    entries: Row<Pair>,
     /// By cell: where its entry stands, if it has one. It is as long as needed.
     places: Row<u32>,
 }
 
 impl Model for NetLog {
     ghost use Rattle.std.specs.Prelude.{List};
-    ghost use Rattle.dp_lean_turn.specs.declared.Entry.{Entry as EntryOf};
+    ghost use Rattle.dp_columns.specs.declared.Pair.{Pair as PairOf};
     ghost use Rattle.dp_lean_turn.specs.Leading.{LeadBack};
 
-    ghost Value = { List EntryOf };
+    ghost Value = { List PairOf };
 
     ghost view = { λ log. log.entries };
 
@@ -68,7 +68,7 @@ impl NetLog {
 
     /// The stores.
     #[inline(always)]
-    pub(crate) fn as_slice(&self) -> &[Entry]
+    pub(crate) fn as_slice(&self) -> &[Pair]
         ensures { result.now ≡ self.now }
     {
         self.entries.as_slice()
@@ -115,7 +115,7 @@ impl NetLog {
         reach(&mut self.places, cell)?;
         match u32::try_from(self.entries.len()) {
             Ok(place) => {
-                self.entries.push(Entry { cell, value })?;
+                self.entries.push(Pair { cell, value })?;
                 self.places.set(cell as usize, place);
                 Ok(())
             }
@@ -126,12 +126,12 @@ impl NetLog {
     /// A store more: it takes the place of an earlier one into its cell, or stands behind the others.
     #[inline(always)]
     pub(crate) fn put(&mut self, cell: u32, value: i64) -> Result<(), NoMemory>
-        ensures ok { OnOk result (map entry_store self.new ≡ put cell value (map entry_store self.old)) }
+        ensures ok { OnOk result (map pair_store self.new ≡ put cell value (map pair_store self.old)) }
         ensures err { OnErr result (self.new ≡ self.old) }
     {
         match self.place_of(cell) {
             Some(place) => {
-                self.entries.set(place, Entry { cell, value });
+                self.entries.set(place, Pair { cell, value });
                 Ok(())
             }
             None => self.add(cell, value),

@@ -2,7 +2,8 @@
 ghost use Rattle.std.specs.Prelude.{◌≡◌, [], true};
 ghost use Rattle.dp_lean_turn.specs.Told.{notes_load};
 
-use crate::{Entry, Loads};
+use crate::Loads;
+use dp_columns::Pair;
 use dp_engine::Watch;
 
 impl Loads {
@@ -24,7 +25,7 @@ impl Loads {
     fn note(&mut self, cell: u32, value: i64)
         ensures { notes_load self.old cell value self.new }
     {
-        match self.entries.push(Entry { cell, value }) {
+        match self.entries.push(Pair { cell, value }) {
             Ok(()) => {}
             Err(_) => self.wanting = true,
         }

@@ -5,13 +5,13 @@ ghost use Rattle.dp_tree.specs.Step as effect;
 ghost use Rattle.dp_tree.specs.Step.{Event};
 ghost use Rattle.dp_semantics.specs.Clean.{as_assumed};
 ghost use Rattle.dp_net.specs.NetItems.{Marks, is_store};
-ghost use Rattle.dp_columns.specs.Columned.{Columned, KeepsElements, with_told, loads_ended};
+ghost use Rattle.dp_columns.specs.Columned.{Columned, KeepsElements, with_told};
 ghost use Rattle.dp_lean_code.specs.LeanHeld.{Held};
 ghost use Rattle.dp_lean_turn.specs.Notes.{kind_at};
-ghost use Rattle.dp_lean_turn.specs.Told.{entry_load, with_loads, done_put, Grown};
+ghost use Rattle.dp_lean_turn.specs.Told.{done_put, Grown};
 ghost use Rattle.dp_lean_turn.specs.Adding.{FitsNote, IsEventPut, CountsWords, LogsStore, IsOwnEvent, Adds};
 
-use crate::{Answer, Entry, Frame, Note, Teller};
+use crate::{Answer, Frame, Note, Teller};
 use dp_columns::{ColumnKind, Columns};
 use dp_room::NoMemory;
 
@@ -52,19 +52,6 @@ fn put_done(
     }
 }
 
-/// The loads of an own site's event are put into its column.
-#[inline(never)]
-fn put_loads(own: &mut Columns, place: usize, entries: &[Entry]) -> Result<(), NoMemory>
-    requires within { place < length own.old.kinds }
-    ensures ok { OnOk result (own.new ≡ loads_ended place (with_loads place (map entry_load entries.now) own.old)) }
-    ensures grown { Grown own.old own.new }
-{
-    for entry in entries {
-        own.put_load(place, entry.cell, entry.value)?;
-    }
-    own.end_loads(place)
-}
-
 /// The stage's blocks don't tell their stores into the cell.
 #[inline(always)]
 pub(crate) fn is_hidden(hidden: &[bool], cell: u32) -> bool
@@ -98,11 +85,8 @@ impl Teller {
     {
         put_done(&mut self.own, note.kind, note.place as usize, cell, value)?;
         if note.checked {
-            put_loads(
-                &mut self.own,
-                note.place as usize,
-                self.loads.entries.as_slice(),
-            )?;
+            self.own
+                .put_loads(note.place as usize, self.loads.entries.as_slice())?;
         }
         Ok(())
     }
