@@ -47,7 +47,8 @@ may_run contents run faults after failed fails q numbers plans within h = record
 -- a run by fuel and a wish for causes that are the words'
 pub runs_as : {line : List ℕ} {p : Program} {plans : List Plan} {numbers : List ℤ} {fuel asked : ℕ} {why wished : Bool} {told tells : Option (List ℕ)}
     {before now : ℕ} {result : Result ℕ WriteFail} →
-    fuel ≡ asked → why ≡ wished → Runs line p plans numbers fuel why told tells before now result → Runs line p plans numbers asked wished told tells before now result
+    fuel ≡ asked → why ≡ wished → Runs line p plans numbers fuel why told tells before now result →
+    Runs line p plans numbers asked wished told tells before now result
 runs_as {line} {p} {plans} {numbers} {fuel} {asked} {why} {wished} {told} {tells} {before} {now} {result} same wish runs =
     subst (λ (n : ℕ). Runs line p plans numbers n wished told tells before now result) same
     (subst (λ (w : Bool). Runs line p plans numbers fuel w told tells before now result) wish runs)
