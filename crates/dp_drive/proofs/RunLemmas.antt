@@ -1,5 +1,5 @@
 -- What the texts of a run give is what the words of each verb that runs one are answered with.
-use Rattle.std.proofs.Common.{◌≡◌, refl, sym, ◌∙◌, subst, ℕ, List, [], ℤ, Option, Some, None, Result, Ok, Err}
+use Rattle.std.proofs.Common.{◌≡◌, refl, sym, ◌∙◌, subst, ℕ, Bool, List, [], ℤ, Option, Some, None, Result, Ok, Err}
 use Rattle.dp_tree.specs.declared.Program.{Program}
 use Rattle.dp_calls.specs.Expand.{expand}
 use Rattle.dp_plan.specs.declared.Plan.{Plan}
@@ -24,6 +24,7 @@ use Rattle.dp_drive.specs.Answer as answers
 use Rattle.dp_drive.specs.steps.Carried.{Carried, Finishes}
 use Rattle.dp_drive.specs.steps.Carried as carried
 use Rattle.dp_drive.specs.steps.Given.{MayRun, WereLoaded}
+use Rattle.dp_drive.specs.steps.Runs.{Runs}
 use Rattle.dp_drive.proofs.AnswerLemmas.{given, named_program}
 
 -- The words ask for something for which the texts of this run are read.
@@ -42,6 +43,15 @@ may_run contents run faults after failed fails q numbers plans within h = record
   given = given contents run faults after failed fails q numbers plans h;
   words = words_given contents run faults after failed fails q numbers plans h;
 }
+
+-- a run by fuel and a wish for causes that are the words'
+pub runs_as : {line : List ℕ} {p : Program} {plans : List Plan} {numbers : List ℤ} {fuel asked : ℕ} {why wished : Bool} {told tells : Option (List ℕ)}
+    {before now : ℕ} {result : Result ℕ WriteFail} →
+    fuel ≡ asked → why ≡ wished → Runs line p plans numbers fuel why told tells before now result →
+    Runs line p plans numbers asked wished told tells before now result
+runs_as {line} {p} {plans} {numbers} {fuel} {asked} {why} {wished} {told} {tells} {before} {now} {result} same wish runs =
+    subst (λ (n : ℕ). Runs line p plans numbers n wished told tells before now result) same
+    (subst (λ (w : Bool). Runs line p plans numbers fuel w told tells before now result) wish runs)
 
 -- they were read, whatever was read before
 pub were_loaded : (contents : Contents) (run : RunAsked) (faults after : ℕ) (failed fails : FailedNames) (q : Program) (numbers : List ℤ) (plans : List Plan) →

@@ -1,5 +1,5 @@
 //! The whole program: from its words to what is written and the exit status.
-ghost use Rattle.std.specs.Prelude.{◌≡◌, ◌<◌, ◌-◌, ◌^◌, ℕ, List, map, string_bytes, IfOk};
+ghost use Rattle.std.specs.Prelude.{◌≡◌, ◌<◌, ◌-◌, ◌^◌, ℕ, List, map, string_bytes, true, IfOk};
 ghost use Rattle.dp_edge.specs.Writing.{FaultsAfter};
 ghost use Rattle.dp_words.specs.Words.{Asks, ToRun};
 ghost use Rattle.dp_words.specs.Run.{RunWithin, shown};
@@ -119,6 +119,20 @@ fn answer<R: Threads + Wait + Clock + Sync, N: NativeCode, S: Shelf, K: Sink, G:
     }
 }
 
+/// How the words want a program run.
+fn options_of(run: RunWords) -> RunOptions
+    requires { RunWithin (shown run) }
+    ensures fuel { result.fuel ≡ run.entry.fuel }
+    ensures size { (result.size.workers ≡ run.entry.options.workers) × (result.size.lane ≡ run.entry.lane) × (result.size.threads ≡ true) }
+    ensures why { result.why ≡ run.entry.why }
+{
+    RunOptions {
+        fuel: run.fuel,
+        size: size_of(run),
+        why: run.why,
+    }
+}
+
 /// The exit status of a run.
 fn answer_run<
     R: Threads + Wait + Clock + Sync,
@@ -151,11 +165,7 @@ fn answer_run<
 {
     match load_texts(alloc, run, shelf)? {
         Texts::Run(program, input, plans) => {
-            let options = RunOptions {
-                fuel: run.fuel,
-                size: size_of(run),
-                why: run.why,
-            };
+            let options = options_of(run);
             let chooses = may_choose(run);
             run_to_end(
                 rt, alloc, native, &program, &plans, &input, options, chooses, sink, gate, tally,

@@ -1,5 +1,5 @@
 //! A batch, run by a stage.
-ghost use Rattle.std.specs.Prelude.{◌≡◌, ◌<◌, ℕ, suc, map, get_or, [], true, length, IfSome};
+ghost use Rattle.std.specs.Prelude.{◌≡◌, ◌<◌, ℕ, suc, map, get_or, [], true, false, length, IfSome};
 ghost use Rattle.dp_plan.specs.Access.{is_replicated};
 ghost use Rattle.dp_net.specs.NetPackets.{NetStatus};
 ghost use Rattle.dp_lean_epoch.specs.Coming.{LeanStands};
@@ -16,10 +16,10 @@ use crate::desk::{Desk, cleared, keep_rooms, readers_of};
 use crate::turning::{Ran, run_all};
 use crate::{BatchStatus, LeanBatch, StageColumns};
 use dp_base::Row;
-use dp_columns::ReaderRoom;
+use dp_columns::{Columns, Reader, ReaderRoom};
 use dp_engine::Memory;
 use dp_lean_region::{Line, ReadyStage};
-use dp_lean_turn::{Teller, Turn};
+use dp_lean_turn::{Loads, Log, Teller, Turn};
 use dp_memory::Version;
 use std::alloc::Global;
 
@@ -36,6 +36,37 @@ const NONE: Ran = Ran {
     iterations: 0,
     status: BatchStatus::NoMemory,
 };
+
+/// A turn that stands before its first site.
+fn first_turn<'c, M: Memory + Drop>(
+    memory: M,
+    readers: Row<Reader<'c>>,
+    own: Columns,
+    loads: Loads,
+    log: Log,
+) -> Turn<'c, M>
+    ensures { result ≡ record {
+      memory = memory;
+      readers = readers.entry;
+      teller = record { own = own; loads = loads; log = log; used = 0; steps = 0 };
+      place = 0;
+      closing = false;
+    } }
+{
+    Turn {
+        memory,
+        readers,
+        teller: Teller {
+            own,
+            loads,
+            log,
+            used: 0,
+            steps: 0,
+        },
+        place: 0,
+        closing: false,
+    }
+}
 
 /// What the turns of a batch leave.
 fn left<'c, M: Memory + Drop>(
@@ -109,19 +140,7 @@ fn run_over<'p, M: Memory + Drop>(
         rooms,
     } = desk;
     let StageColumns { columns, mut steps } = cleared(own);
-    let mut turn = Turn {
-        memory,
-        readers,
-        teller: Teller {
-            own: columns,
-            loads,
-            log,
-            used: 0,
-            steps: 0,
-        },
-        place: 0,
-        closing: false,
-    };
+    let mut turn = first_turn(memory, readers, columns, loads, log);
     let ran = run_all(stage, &mut turn, &mut steps, came);
     left(turn, steps, rooms, ran)
 }

@@ -13,7 +13,7 @@ ghost use Rattle.dp_resume.specs.declared.save.SaveEnd.TheVariants.{Saved as Was
 use crate::reach::reach;
 use crate::regions::{region_count, region_of, regions_before};
 use crate::rest::{finish, run_on};
-use dp_base::{End, RegionReport, Row};
+use dp_base::{End, NoMemory, RegionReport, Row};
 use dp_commit::{Tally, Unwatched};
 use dp_edge::{Gate, Sink, WriteFail, write};
 use dp_epoch::CrewSize;
@@ -42,6 +42,32 @@ pub enum SaveEnd {
     Saved,
     /// The iteration wasn't reached, and the run ended so.
     Ran(End),
+}
+
+/// The checkpoint at which the machine stands.
+fn checkpoint_of(
+    place: SavePlace,
+    machine: &Machine<'_>,
+    reports: Row<RegionReport>,
+) -> Result<Checkpoint, NoMemory>
+    ensures within { machine.now.steps ≤ machine.now.fuel }
+    ensures ok { IfOk result (λ made. made ≡ record {
+      region = place.region;
+      after = place.after;
+      steps = machine.now.steps;
+      fuel = machine.now.fuel;
+      cells = machine.now.config.cells;
+      reports = reports;
+    }) }
+{
+    Ok(Checkpoint {
+        region: place.region,
+        after: place.after,
+        steps: machine.steps(),
+        fuel: machine.fuel(),
+        cells: machine.cells().copy()?,
+        reports,
+    })
 }
 
 /// Writes the checkpoint at which the machine stands.
@@ -77,14 +103,7 @@ fn write_saved<K: Sink>(
           reports = reports;
         })) (K.written sink.old) (K.written sink.new)) }
 {
-    let checkpoint = Checkpoint {
-        region: place.region,
-        after: place.after,
-        steps: machine.steps(),
-        fuel: machine.fuel(),
-        cells: machine.cells().copy()?,
-        reports,
-    };
+    let checkpoint = checkpoint_of(place, &machine, reports)?;
     let text = write_checkpoint(alloc, &checkpoint, program)?;
     write(text.as_slice(), sink)?;
     Ok(SaveEnd::Saved)
