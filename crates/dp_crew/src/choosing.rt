@@ -51,7 +51,7 @@ pub(crate) struct Choice {
     enough: bool,
     /// How quick that was, by which the plan is judged.
     alone: Pace,
-    /// The plan is tried, or was found quicker, and what is timed of that, or of the epoch under way.
+    /// The plan is tried, or was found quicker, and how quick it is since then.
     trial: Option<Trial>,
     quicker: bool,
     watch: Stopwatch,

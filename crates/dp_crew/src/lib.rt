@@ -14,13 +14,13 @@ mod pace;
 mod recover;
 mod region;
 mod settling;
+mod terms;
 mod threads;
 mod timed;
 mod together;
 mod trays;
 mod trial;
 mod waiting;
-mod weight;
 mod work;
 
 pub use region::run_region;

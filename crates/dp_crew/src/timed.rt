@@ -1,6 +1,6 @@
 //! How quick the iterations are that are followed, until that is known well enough for a trial of the plan.
 use crate::pace::{Pace, Stopwatch};
-use crate::weight::Terms;
+use crate::terms::Terms;
 
 /// The clock is looked at behind each so many iterations that are followed, and behind the first ones each time that they are twice
 /// as many.
@@ -18,7 +18,7 @@ pub(crate) struct Timed {
     /// How many iterations were followed in epochs that are over, and how quickly.
     before: u32,
     pace: Pace,
-    /// How many of the epoch under way, since when, and whether it has settled: since when it is timed.
+    /// How many in the epoch under way, since when that is, whether it has settled, and since when it is timed.
     here: u32,
     begun: Stopwatch,
     settled: bool,

@@ -1,4 +1,4 @@
-//! How heavy a region's iterations are, and how long they are followed before its plan is tried.
+//! On which terms a region's plan is tried: how long its iterations are followed before, by how heavy they are.
 
 /// Iterations of so many steps are heavy, and ones of fewer than so many are light.
 const HEAVY: u64 = 40;
